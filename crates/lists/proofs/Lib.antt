@@ -1,0 +1,4 @@
+pub mod Choices
+pub mod Filling
+pub mod Folding
+pub mod Parts

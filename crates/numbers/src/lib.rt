@@ -1,0 +1,175 @@
+// Words and numbers: a card's words, numbers and their words, and the leaves of document 01 on numbers.
+ghost use mathlib.Core.Path.{_≡_};
+ghost use mathlib.Core.Bool.{true, cond, not, _&&_};
+ghost use mathlib.Core.List.{_++_};
+ghost use Prim.Native.Nat.{ℕ, _+_, _*_, _≤_, _<_};
+ghost use lib.ListN.{length, getD, drop};
+ghost use Rattle.numbers.specs.Word.{wordAt};
+ghost use Rattle.numbers.specs.Number.{number, word, finite, abs, max, negative, precedes};
+ghost use Rattle.numbers.specs.Slice.{numbersAt, wordsOf, blank, allFinite};
+
+fn byte(card: &[u8], i: usize) -> u64
+    requires { ⌜ i < length (now card) ⌝ }
+    ensures { λ r. ⌜ (r ≡ getD (now (card .entry)) i 0) × (r < 256) ⌝ }
+{
+    card[i] as u64
+}
+
+// Four bytes, the highest first.
+fn half_at(card: &[u8], b: usize) -> u64
+    requires { ⌜ b + 4 ≤ length (now card) ⌝ }
+    ensures { λ r. ⌜ (r ≡ ((getD (now (card .entry)) b 0 * 256 + getD (now (card .entry)) (b + 1) 0) * 256 + getD (now (card .entry)) (b + 2) 0) * 256 + getD (now (card .entry)) (b + 3) 0) × (r < 4294967296) ⌝ }
+{
+    let high = byte(card, b) * 256 + byte(card, b + 1);
+    let low = byte(card, b + 2) * 256 + byte(card, b + 3);
+    high * 65536 + low
+}
+
+// Word number `place` of the card.
+pub fn word_at(card: &[u8], place: usize) -> u64
+    requires { ⌜ place * 8 + 8 ≤ length (now card) ⌝ }
+    ensures { λ r. ⌜ r ≡ wordAt (now (card .entry)) place ⌝ }
+{
+    let b = place * 8;
+    half_at(card, b) * 4294967296 + half_at(card, b + 4)
+}
+
+// The number that a word holds. Every NaN pattern gives a NaN.
+pub fn number_of(w: u64) -> f64
+    ensures { λ r. ⌜ r ≡ number w ⌝ }
+{
+    if w % 0x8000_0000_0000_0000 > 0x7ff0_0000_0000_0000 {
+        0.0 / 0.0
+    } else {
+        f64::from_bits(w)
+    }
+}
+
+// The word of a number. A NaN gives the quiet NaN with its sign clear.
+pub fn word_of(x: f64) -> u64
+    ensures { λ r. ⌜ r ≡ word x ⌝ }
+{
+    if x != x {
+        0x7ff8_0000_0000_0000
+    } else {
+        f64::to_bits(x)
+    }
+}
+
+// Neither a NaN nor an infinity.
+pub fn is_finite(x: f64) -> bool
+    ensures { λ r. ⌜ r ≡ finite x ⌝ }
+{
+    let infinity = 1.0 / 0.0;
+    if -infinity < x {
+        return x < infinity;
+    }
+    false
+}
+
+// x without its sign, of a zero too.
+pub fn abs_of(x: f64) -> f64
+    ensures { λ r. ⌜ r ≡ abs x ⌝ }
+{
+    if x < 0.0 {
+        return -x;
+    }
+    if x == 0.0 {
+        return 0.0;
+    }
+    x
+}
+
+// Whether the sign of x is set. A NaN has none.
+fn is_negative(x: f64) -> bool
+    ensures { λ r. ⌜ r ≡ negative x ⌝ }
+{
+    if x != x {
+        return false;
+    }
+    0x8000_0000_0000_0000 <= f64::to_bits(x)
+}
+
+// The larger of x and y: of a NaN and another the other, of zeros of both signs the positive one.
+pub fn max_of(x: f64, y: f64) -> f64
+    ensures { λ r. ⌜ r ≡ max x y ⌝ }
+{
+    if x != x {
+        return y;
+    }
+    if y != y {
+        return x;
+    }
+    if x < y {
+        return y;
+    }
+    if y < x {
+        return x;
+    }
+    if is_negative(x) {
+        return y;
+    }
+    x
+}
+
+// Whether x comes before y in a sort.
+pub fn comes_before(x: f64, y: f64) -> bool
+    ensures { λ r. ⌜ r ≡ precedes x y ⌝ }
+{
+    if x != x {
+        return false;
+    }
+    if y != y {
+        return true;
+    }
+    if x < y {
+        return true;
+    }
+    if y < x {
+        return false;
+    }
+    is_negative(x) && !is_negative(y)
+}
+
+// Puts the n numbers from word `from` of the card at the front of the slice.
+pub fn load(card: &[u8], from: usize, n: usize, out: &mut [f64])
+    requires { ⌜ ((from + n) * 8 ≤ length (now card)) × (n ≤ length (now out)) ⌝ }
+    ensures { λ _. ⌜ now (out .exit) ≡ numbersAt (now (card .entry)) from n ++ drop n (now (out .entry)) ⌝ }
+{
+    for i in 0..n {
+        out[i] = number_of(word_at(card, from + i));
+    }
+}
+
+// Puts the words of the first n numbers at the front of the result.
+pub fn emit(numbers: &[f64], n: usize, result: &mut [u64])
+    requires { ⌜ (n ≤ length (now numbers)) × (n ≤ length (now result)) ⌝ }
+    ensures { λ _. ⌜ now (result .exit) ≡ wordsOf n (now (numbers .entry)) ++ drop n (now (result .entry)) ⌝ }
+{
+    for i in 0..n {
+        result[i] = word_of(numbers[i]);
+    }
+}
+
+// Sets every number of the slice to +0.
+pub fn clear(work: &mut [f64])
+    ensures { λ _. ⌜ now (work .exit) ≡ blank (now (work .entry)) ⌝ }
+{
+    let n = work.len();
+    for i in 0..n {
+        work[i] = 0.0;
+    }
+}
+
+// Whether all numbers of the slice are finite.
+pub fn all_finite(xs: &[f64]) -> bool
+    ensures { λ r. ⌜ r ≡ allFinite (now (xs .entry)) ⌝ }
+{
+    let n = xs.len();
+    for i in 0..n {
+        if !is_finite(xs[i]) {
+            return false;
+        }
+    }
+    true
+}
