@@ -5,7 +5,10 @@ use Prim.Native.Nat.{ℕ, zero, suc, _+_, _≤_, _<_}
 use native.Mathlib.Nat.{eq-or-lt-of-le}
 use native.Mathlib.Numerals.{add-one}
 use native.Mathlib.Omega.{arith}
+use lib.ListN.{getD}
+use Rattle.lists.specs.Build.{build}
 use Rattle.lists.specs.Fold.{fold}
+use Rattle.lists.proofs.Filling.{build-same, getD-build}
 
 module _ {S : Type 0} (f : ℕ → S → S) where
   pub fold-none : (s : S) → s ≡ fold 0 f s
@@ -39,3 +42,12 @@ pub fold-same : {S : Type 0} (f g : ℕ → S → S) (n : ℕ) (s : S) → ((i :
 unfolding fold
 fold-same f g zero s h = refl
 fold-same f g (suc n) s h = h n (fold n f s) (omega arith) ∙ ap (g n) (fold-same f g n s (λ i t l. h i t (omega arith)))
+
+-- a step on each entry, list after list, is the same as entry by entry
+pub build-fold : {A : Type 0} (z : A) (m n : ℕ) (step : ℕ → ℕ → A → A) (f : ℕ → A)
+    → fold n (λ k l. build m (λ i. step k i (getD l i z))) (build m f) ≡ build m (λ i. fold n (λ k s. step k i s) (f i))
+unfolding fold
+build-fold z m zero step f = refl
+build-fold z m (suc n) step f =
+    build-same m _ _
+    (λ j h. ap (step n j) (ap (λ l. getD l j z) (build-fold z m n step f) ∙ getD-build z m j (λ i. fold n (λ k s. step k i s) (f i)) h))

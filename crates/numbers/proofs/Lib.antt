@@ -1,2 +1,4 @@
 pub mod Leaves
 pub mod Finite
+pub mod Values
+pub mod Zeros

@@ -1,6 +1,6 @@
 -- Numbers (IEEE 754's binary64) and the words that hold them; sign, size, the larger of two, and the order of a sort, as document 01 has them.
 use mathlib.Core.Bool.{Bool, true, false, not, _&&_, cond}
-use Prim.Native.Nat.{ℕ}
+use Prim.Native.Nat.{ℕ, zero, suc}
 use lib.Ieee as Ieee
 use lib.Ieee.{Float, nan, inf, fin, binary64}
 
@@ -43,6 +43,10 @@ finite nan = false
 finite (inf s) = false
 finite (fin s m e) = true
 
+-- finite and above zero, as a tolerance has to be
+unfoldable pub positive : Float → Bool
+positive x = finite x && Ieee.lt zeroF x
+
 -- without its sign
 unfoldable pub abs : Float → Float
 abs nan = nan
@@ -62,3 +66,11 @@ max x y = cond (Ieee.isNan x) y (cond (Ieee.isNan y) x (cond (Ieee.lt x y) y (co
 -- x comes before y in a sort: by size, -0 before +0, and a NaN, whatever its sign, after all else and beside any NaN
 unfoldable pub precedes : Float → Float → Bool
 precedes x y = cond (Ieee.isNan x) false (cond (Ieee.isNan y) true (cond (Ieee.lt x y) true (cond (Ieee.lt y x) false (negative x && not (negative y)))))
+
+-- not -0
+abbrev pub Plain : Float → Type 0
+Plain nan = Unit {0}
+Plain (inf s) = Unit {0}
+Plain (fin false m e) = Unit {0}
+Plain (fin true zero e) = ⊥
+Plain (fin true (suc m) e) = Unit {0}

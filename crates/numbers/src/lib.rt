@@ -5,7 +5,7 @@ ghost use mathlib.Core.List.{_++_};
 ghost use Prim.Native.Nat.{ℕ, _+_, _*_, _≤_, _<_};
 ghost use lib.ListN.{length, getD, drop};
 ghost use Rattle.numbers.specs.Word.{wordAt};
-ghost use Rattle.numbers.specs.Number.{number, word, finite, abs, max, negative, precedes};
+ghost use Rattle.numbers.specs.Number.{number, word, finite, positive, abs, max, negative, precedes};
 ghost use Rattle.numbers.specs.Slice.{numbersAt, wordsOf, blank, allFinite};
 
 fn byte(card: &[u8], i: usize) -> u64
@@ -63,6 +63,16 @@ pub fn is_finite(x: f64) -> bool
     let infinity = 1.0 / 0.0;
     if -infinity < x {
         return x < infinity;
+    }
+    false
+}
+
+// Finite and above zero.
+pub fn is_positive(x: f64) -> bool
+    ensures { λ r. ⌜ r ≡ positive x ⌝ }
+{
+    if is_finite(x) {
+        return 0.0 < x;
     }
     false
 }

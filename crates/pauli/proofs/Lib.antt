@@ -1,0 +1,4 @@
+pub mod Admission
+pub mod Digits
+pub mod Entries
+pub mod Sums

@@ -1,0 +1,69 @@
+-- `pauli::density_tested` meets its contract. Assumes nothing.
+use mathlib.Core.Path.{sym}
+use denote.Ref.{now}
+use lib.Seq.{length-take-le}
+use Rattle.lists.proofs.Parts.{front-is, front-over, front-long}
+use Rattle.pauli.specs.Density.{densityOf}
+use Rattle.pauli.proofs.Sums.{length-density, room, tested-yes, tested-no}
+use native.Mathlib.Nat.{mul-le-mul}
+use native.Mathlib.Omega.{arith}
+use borrow.Author.Needs.{needs}
+use Rattle.pauli.proofs.density_tested.Statement.{statement}
+use Rattle.pauli.proofs.density_tested.Tie as tie
+
+two-to-requires : tie.Need-two-to-requires
+two-to-requires c κs = search needs
+
+mul-m : tie.Need-mul-m
+mul-m c = omega (arith, mul-le-mul (c .two-to .ensures .1) (c .two-to .ensures .1))
+
+mul-m-2 : tie.Need-mul-m-2
+mul-m-2 c = omega (arith, mul-le-mul (c .two-to .ensures .1) (c .two-to .ensures .1))
+
+slice-relend-prefix-density : tie.Need-slice-relend-prefix-density
+slice-relend-prefix-density c = room _ _ _ (c .two-to .ensures .0) (c .before .before .before .pre .2)
+
+slice-aggregate-density : tie.Need-slice-aggregate-density
+slice-aggregate-density c = sym (length-take-le _ _ (room _ _ _ (c .before .two-to .ensures .0) (c .before .before .before .before .pre .2)))
+
+density-requires : tie.Need-density-requires
+density-requires c κs = (c .before .before .before .before .pre .0, c .before .two-to .ensures .0, c .before .before .before .before .pre .1, length-take-le _ _ (room _ _ _ (c .before .two-to .ensures .0) (c .before .before .before .before .pre .2)), c .before .before .before .before .pre .3)
+
+slice-reshare-prefix-all-finite : tie.Need-slice-reshare-prefix-all-finite
+slice-reshare-prefix-all-finite c = front-long _ _ _ (densityOf (c .before .before .before .before .before .before .before .args .n) (now (c .before .before .before .before .before .before .before .args .es))) (c .before .before .density .ensures) (length-density _ _ _ (c .before .before .before .before .two-to .ensures .0))
+
+slice-aggregate-all-finite : tie.Need-slice-aggregate-all-finite
+slice-aggregate-all-finite c = sym (length-take-le _ _ (front-long _ _ _ (densityOf (c .before .before .before .before .before .before .before .before .args .n) (now (c .before .before .before .before .before .before .before .before .args .es))) (c .before .before .before .density .ensures) (length-density _ _ _ (c .before .before .before .before .before .two-to .ensures .0))))
+
+all-finite-requires : tie.Need-all-finite-requires
+all-finite-requires c κs = search needs
+
+same-length : tie.Need-same-length
+same-length c = search needs
+
+returns : tie.Need-returns
+returns c = (tested-yes _ _ _ _ _ (c .before .before .before .before .before .before .before .two-to .ensures .0) (front-is _ _ _ _ (c .before .before .before .before .before .density .ensures) (length-density _ _ _ (c .before .before .before .before .before .before .before .two-to .ensures .0))) (c .before .all-finite .ensures) (c .if1 .taken), front-over _ _ _ _ (c .before .before .before .before .before .density .ensures) (length-density _ _ _ (c .before .before .before .before .before .before .before .two-to .ensures .0)))
+
+same-length-2 : tie.Need-same-length-2
+same-length-2 c = search needs
+
+returns-2 : tie.Need-returns-2
+returns-2 c = (tested-no _ _ _ _ (front-is _ _ _ _ (c .before .before .before .before .before .density .ensures) (length-density _ _ _ (c .before .before .before .before .before .before .before .two-to .ensures .0))) (c .before .all-finite .ensures) (c .if1 .left), front-over _ _ _ _ (c .before .before .before .before .before .density .ensures) (length-density _ _ _ (c .before .before .before .before .before .before .before .two-to .ensures .0)))
+
+pub density-tested-spec : {M : Type 1} → statement M
+density-tested-spec =
+    tie.close
+    (tie.spec
+    two-to-requires
+    mul-m
+    mul-m-2
+    slice-relend-prefix-density
+    slice-aggregate-density
+    density-requires
+    slice-reshare-prefix-all-finite
+    slice-aggregate-all-finite
+    all-finite-requires
+    same-length
+    returns
+    same-length-2
+    returns-2)

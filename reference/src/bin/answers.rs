@@ -1,0 +1,138 @@
+//! Writes the stored cards and the Rust's answers: `answers DIR`.
+//!
+//! DIR/data/cards and DIR/data/readings hold each card after its length in bytes (8 bytes, highest first). DIR/stdout holds
+//! the sheets of the cards and after them the readings, a line each.
+
+use reference::card::bytes_of;
+use reference::makers::{self, fixed, readings};
+use reference::random::Rng;
+use reference::{sheet, BUILT};
+use std::path::Path;
+use std::{env, fs, io};
+
+const SHEETS: usize = 660;
+const SHEET_BYTES: usize = 220_000;
+const READINGS: usize = 700;
+/// A card and its answer that are always small enough.
+const LEAST: usize = 160;
+/// Of the readings' cards, the largest one aside.
+const READING_BYTES: usize = 80_000;
+
+fn shuffled<T>(mut list: Vec<T>, rng: &mut Rng) -> Vec<T> {
+    for k in (1..list.len()).rev() {
+        list.swap(k, rng.index(k + 1));
+    }
+    list
+}
+
+/// Cards with their texts, under a limit of bytes.
+struct Stored {
+    cards: Vec<u8>,
+    text: String,
+    count: usize,
+    print: fn(&[u8]) -> String,
+}
+
+impl Stored {
+    fn new(print: fn(&[u8]) -> String) -> Self {
+        Stored { cards: Vec::new(), text: String::new(), count: 0, print }
+    }
+
+    fn bytes(&self) -> usize {
+        self.cards.len() + self.text.len()
+    }
+
+    fn put(&mut self, card: &[u8]) {
+        self.text.push_str(&(self.print)(card));
+        self.cards.extend((card.len() as u64).to_be_bytes());
+        self.cards.extend(card);
+        self.count += 1;
+    }
+
+    /// Cards by turns from the fixed lists and from `make`, until there are `count`. Most stay near the size that the
+    /// limit leaves for each; a few may be larger.
+    fn fill(
+        &mut self,
+        count: usize,
+        limit: usize,
+        fixed: Vec<Vec<Vec<u8>>>,
+        make: impl Fn(&mut Rng) -> Vec<u8>,
+        rng: &mut Rng,
+    ) {
+        let mut fixed: Vec<_> = fixed.into_iter().map(|list| shuffled(list, rng).into_iter()).collect();
+        for turn in 0.. {
+            if self.count >= count {
+                return;
+            }
+            assert!(turn < 1_000_000, "the limit of bytes is too low");
+            let sources = fixed.len() + 3;
+            let card = fixed.get_mut(turn % sources).and_then(|list| list.next()).unwrap_or_else(|| make(rng));
+            let usual = limit.saturating_sub(self.bytes()) / (count - self.count);
+            let most = if rng.chance(10) { 10 * usual } else { (3 * usual / 2).max(LEAST) };
+            if card.len() + 8 <= most && card.len() + 8 + (self.print)(&card).len() <= most {
+                self.put(&card);
+            }
+        }
+    }
+}
+
+fn sheets() -> Stored {
+    let mut stored = Stored::new(|card| sheet::print(&sheet::built_outcome(card)));
+    let mut rng = Rng::new(2024);
+    for (words, _) in fixed::stars() {
+        stored.put(&bytes_of(&words));
+    }
+    for kind in 1..=7 {
+        stored.put(&bytes_of(&fixed::base(kind)));
+    }
+    for size in [0, 1, 7, 8] {
+        stored.put(&vec![0x11; size]);
+    }
+    for (k, &kind) in BUILT.iter().enumerate() {
+        let (count, limit) = (SHEETS * (k + 1) / BUILT.len(), SHEET_BYTES * (k + 1) / BUILT.len());
+        let fixed = vec![fixed::edges(kind), fixed::sweep(&fixed::base(kind))];
+        stored.fill(count, limit, fixed, |rng| makers::card(kind, rng), &mut rng);
+    }
+    stored
+}
+
+fn readings() -> Stored {
+    let mut stored = Stored::new(|card| sheet::print_reading(&sheet::reading(card)));
+    let mut rng = Rng::new(2025);
+    let (mut large, mut small) = (Vec::new(), Vec::new());
+    for (card, _) in fixed::traps() {
+        if card.len() > 60_000 {
+            large.push(card);
+        } else {
+            small.push(card);
+        }
+    }
+    for card in small.iter().filter(|card| card.len() <= 400) {
+        stored.put(card);
+    }
+    for kind in 1..=7 {
+        stored.put(&bytes_of(&fixed::base(kind)));
+        let (count, limit) = (READINGS * kind as usize / 7, READING_BYTES * kind as usize / 7);
+        let (count, limit) = (count.max(stored.count + 40), limit.max(stored.bytes() + 6_000));
+        let fixed = vec![fixed::sweep(&fixed::base(kind))];
+        stored.fill(count, limit, fixed, |rng| readings::reading(rng), &mut rng);
+    }
+    // One card above the largest size; the others are as large and are compared from memory.
+    let longer = large.iter().find(|card| card.len() == 65_537).expect("the traps have this size");
+    stored.put(longer);
+    stored
+}
+
+fn main() -> io::Result<()> {
+    let Some(folder) = env::args().nth(1) else {
+        eprintln!("answers DIR");
+        std::process::exit(2);
+    };
+    let (folder, sheets, readings) = (Path::new(&folder), sheets(), readings());
+    fs::create_dir_all(folder.join("data"))?;
+    fs::write(folder.join("data/cards"), &sheets.cards)?;
+    fs::write(folder.join("data/readings"), &readings.cards)?;
+    fs::write(folder.join("stdout"), sheets.text + &readings.text)?;
+    println!("{} cards, {} readings", sheets.count, readings.count);
+    Ok(())
+}

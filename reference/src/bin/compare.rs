@@ -1,0 +1,320 @@
+//! Compares the port with the Rust: `compare COUNT SEED [GROUP..]`.
+//!
+//! A group is a kind (1 to 7) of the sheet entry or `read`; without one all are run. Each has its fixed cards and COUNT
+//! random ones. The exit status is 1 if anything differs.
+
+use reference::card::{self, bytes_of, Refusal};
+use reference::makers::{self, fixed};
+use reference::port::{self, ANSWER_WORDS, RESULT_WORDS, WORK_WORDS};
+use reference::random::Rng;
+use reference::sheet::{self, Outcome};
+use reference::BUILT;
+use std::collections::BTreeMap;
+use std::process::ExitCode;
+
+/// Words before and after each lent slice that must stay as they are.
+const GUARD: usize = 16;
+const SHOWN: usize = 5;
+
+/// What a slice holds before the call.
+#[derive(Clone, Copy)]
+enum Garbage {
+    Same(u64),
+    Changing(u64),
+}
+
+impl Garbage {
+    fn any(rng: &mut Rng) -> Self {
+        match rng.below(8) {
+            0 => Garbage::Same(0x7ff8000000000000),
+            1 => Garbage::Same(0xfff0000000000001),
+            2 => Garbage::Same(u64::MAX),
+            3 => Garbage::Same(0x8000000000000000),
+            4 => Garbage::Same(1),
+            _ => Garbage::Changing(rng.next()),
+        }
+    }
+
+    fn at(self, place: usize) -> u64 {
+        match self {
+            Garbage::Same(word) => word,
+            Garbage::Changing(seed) => seed ^ (place as u64).wrapping_mul(0x9e37_79b9_7f4a_7c15),
+        }
+    }
+}
+
+/// A lent slice between two guards.
+struct Lent {
+    words: Vec<u64>,
+    length: usize,
+    garbage: Garbage,
+}
+
+impl Lent {
+    fn new() -> Self {
+        Lent { words: Vec::new(), length: 0, garbage: Garbage::Same(0) }
+    }
+
+    fn fill(&mut self, length: usize, rng: &mut Rng) {
+        let garbage = Garbage::any(rng);
+        self.words.resize(length + 2 * GUARD, 0);
+        for (place, word) in self.words.iter_mut().enumerate() {
+            *word = garbage.at(place);
+        }
+        (self.length, self.garbage) = (length, garbage);
+    }
+
+    fn slice(&mut self) -> &mut [u64] {
+        &mut self.words[GUARD..GUARD + self.length]
+    }
+
+    /// Guards untouched, `wanted` from word 0, and `rest` after it (or what was there before the call).
+    fn check(&self, name: &str, wanted: &[u64], rest: Option<u64>) -> Result<(), String> {
+        let found = |place: usize| self.words[GUARD + place];
+        for (place, &word) in wanted.iter().enumerate() {
+            if found(place) != word {
+                return Err(format!("{name} word {place} is {:016x}, wanted {word:016x}", found(place)));
+            }
+        }
+        for place in wanted.len()..self.length {
+            let word = rest.unwrap_or_else(|| self.garbage.at(GUARD + place));
+            if found(place) != word {
+                return Err(format!("{name} word {place} is {:016x}, wanted {word:016x} there", found(place)));
+            }
+        }
+        let ends = (0..GUARD).chain(GUARD + self.length..self.words.len());
+        for place in ends {
+            if self.words[place] != self.garbage.at(place) {
+                return Err(format!("a word outside {name} was written"));
+            }
+        }
+        Ok(())
+    }
+}
+
+/// Lengths of result, work and answer: mostly the least or a little more, sometimes too short.
+fn lengths(rng: &mut Rng) -> (usize, usize, usize) {
+    let length = |rng: &mut Rng, least: usize| match rng.below(200) {
+        0 => 0,
+        1 => 1,
+        2 => least - 1,
+        3 => rng.index(least),
+        4..=20 => least + rng.index(70),
+        _ => least,
+    };
+    (length(rng, RESULT_WORDS), length(rng, WORK_WORDS), length(rng, ANSWER_WORDS))
+}
+
+struct Compare {
+    rng: Rng,
+    result: Lent,
+    work: Lent,
+    answer: Lent,
+    card: Vec<u8>,
+    agreed: BTreeMap<String, u64>,
+    differing: usize,
+}
+
+impl Compare {
+    fn new(seed: u64) -> Self {
+        Compare {
+            rng: Rng::new(seed ^ 0x5eed),
+            result: Lent::new(),
+            work: Lent::new(),
+            answer: Lent::new(),
+            card: Vec::new(),
+            agreed: BTreeMap::new(),
+            differing: 0,
+        }
+    }
+
+    /// The card at an odd place in memory as often as not.
+    fn lend_card(&mut self, bytes: &[u8]) -> usize {
+        let shift = self.rng.index(8);
+        self.card.clear();
+        self.card.resize(shift, 0xaa);
+        self.card.extend_from_slice(bytes);
+        shift
+    }
+
+    fn note(&mut self, label: String, bytes: &[u8], wanted: String, found: String, difference: Result<(), String>) {
+        match difference {
+            Ok(()) => *self.agreed.entry(label).or_default() += 1,
+            Err(difference) => {
+                self.differing += 1;
+                if self.differing <= SHOWN {
+                    println!("{label} differs: {difference}");
+                    println!("  card: {}", hexadecimal(bytes));
+                    println!("  the Rust: {wanted}");
+                    println!("  the port: {found}");
+                }
+            }
+        }
+    }
+
+    fn sheet(&mut self, bytes: &[u8]) {
+        let (result, work, answer) = lengths(&mut self.rng);
+        self.result.fill(result, &mut self.rng);
+        self.work.fill(work, &mut self.rng);
+        self.answer.fill(answer, &mut self.rng);
+        let shift = self.lend_card(bytes);
+        let returned =
+            port::sheet(&self.card[shift..], self.result.slice(), self.work.slice(), self.answer.slice());
+
+        let short = result < RESULT_WORDS || work < WORK_WORDS || answer < ANSWER_WORDS;
+        let outcome = if short { Outcome::Refused(Refusal::new(16, 0, 0)) } else { sheet::built_outcome(bytes) };
+        let label = match &outcome {
+            Outcome::Accepted { kind, .. } => format!("sheet, kind {kind}, accepted"),
+            Outcome::Refused(refusal) => format!("sheet, kind {}, refused {:2}", kind_label(bytes), refusal.n),
+        };
+        let (code, written): (u64, &[u64]) = match &outcome {
+            Outcome::Accepted { words, .. } => (0, words),
+            Outcome::Refused(refusal) => (refusal.n, &[]),
+        };
+        let head = outcome.answer();
+        let answered: &[u64] = if answer < ANSWER_WORDS { &[] } else { &head };
+        let difference = check_code(returned, code)
+            .and_then(|()| self.answer.check("answer", answered, None))
+            .and_then(|()| self.result.check("result", written, None))
+            .and_then(|()| self.work.check("work", &[], Some(0)))
+            .and_then(|()| check_card(&self.card[shift..], bytes));
+        // Texts only for what is shown: they would take most of the time.
+        let (wanted, found) = if difference.is_ok() {
+            (String::new(), String::new())
+        } else {
+            let shown = written.len().max(8).min(result);
+            (
+                format!("answer {}, result {}", words(&head), words(written)),
+                format!(
+                    "answer {}, result {} .. (lent {result} result, {work} work and {answer} answer words)",
+                    words(self.answer.slice()),
+                    words(&self.result.slice()[..shown]),
+                ),
+            )
+        };
+        self.note(label, bytes, wanted, found, difference);
+    }
+
+    fn read(&mut self, bytes: &[u8]) {
+        let (_, _, answer) = lengths(&mut self.rng);
+        self.answer.fill(answer, &mut self.rng);
+        let shift = self.lend_card(bytes);
+        let returned = port::read(&self.card[shift..], self.answer.slice());
+
+        let reading = if answer < ANSWER_WORDS { Err(Refusal::new(16, 0, 0)) } else { sheet::reading(bytes) };
+        let (label, code, head) = match reading {
+            Ok(kind) => (format!("read, kind {kind}, accepted"), 0, [u64::from(kind), 0, 0, 0, 0]),
+            Err(r) => (format!("read, kind {}, refused {:2}", kind_label(bytes), r.n), r.n, [0, r.n, r.a, r.b, 0]),
+        };
+        let answered: &[u64] = if answer < ANSWER_WORDS { &[] } else { &head };
+        let difference = check_code(returned, code)
+            .and_then(|()| self.answer.check("answer", answered, None))
+            .and_then(|()| check_card(&self.card[shift..], bytes));
+        let found = format!("{} (lent {answer} answer words)", words(self.answer.slice()));
+        self.note(label, bytes, words(&head), found, difference);
+    }
+}
+
+fn check_code(found: u64, wanted: u64) -> Result<(), String> {
+    if found == wanted {
+        Ok(())
+    } else {
+        Err(format!("returned {found}, wanted {wanted}"))
+    }
+}
+
+fn check_card(found: &[u8], wanted: &[u8]) -> Result<(), String> {
+    if found == wanted {
+        Ok(())
+    } else {
+        Err("the card was written to".to_string())
+    }
+}
+
+/// The kind that word 0 names, for the summary.
+fn kind_label(bytes: &[u8]) -> String {
+    match bytes.first().map(|byte| byte >> 4) {
+        Some(kind) if bytes.len() >= 8 && (1..=7).contains(&kind) => kind.to_string(),
+        _ => "?".to_string(),
+    }
+}
+
+fn words(list: &[u64]) -> String {
+    list.iter().map(|word| format!("{word:016x}")).collect::<Vec<_>>().join(" ")
+}
+
+/// The whole words, then the bytes of a cut one; long cards are shortened to what the layout can hold.
+fn hexadecimal(bytes: &[u8]) -> String {
+    let whole = card::whole_words(bytes);
+    let cut: String = bytes[8 * whole.len()..].iter().map(|byte| format!("{byte:02x}")).collect();
+    if whole.len() <= 700 {
+        format!("{} {cut}", words(&whole))
+    } else {
+        format!("{} .. ({} bytes in all)", words(&whole[..700]), bytes.len())
+    }
+}
+
+fn main() -> ExitCode {
+    let arguments: Vec<String> = std::env::args().skip(1).collect();
+    let numbers: Option<(u64, u64)> = match arguments.as_slice() {
+        [count, seed, ..] => count.parse().ok().zip(seed.parse().ok()),
+        _ => None,
+    };
+    let Some((count, seed)) = numbers else {
+        eprintln!("compare COUNT SEED [1..7 | read]..");
+        return ExitCode::from(2);
+    };
+    let groups = &arguments[2..];
+    let wanted = |group: &str| groups.is_empty() || groups.iter().any(|name| name == group);
+    let mut compare = Compare::new(seed);
+
+    for kind in 1..=7u8 {
+        if !wanted(&kind.to_string()) {
+            continue;
+        }
+        let mut rng = Rng::new(seed.wrapping_mul(8).wrapping_add(u64::from(kind)));
+        let built = BUILT.contains(&kind);
+        for bytes in fixed::edges(kind).iter().chain(&fixed::sweep(&fixed::base(kind))) {
+            compare.sheet(bytes);
+        }
+        // Kinds that the port lacks are all one refusal.
+        for _ in 0..if built { count } else { count / 50 } {
+            compare.sheet(&makers::card(kind, &mut rng));
+        }
+    }
+    if wanted("read") {
+        let mut rng = Rng::new(seed.wrapping_mul(8));
+        for (bytes, _) in fixed::traps() {
+            compare.read(&bytes);
+            compare.sheet(&bytes);
+        }
+        for kind in 1..=7 {
+            for bytes in fixed::edges(kind).iter().chain(&fixed::sweep(&fixed::base(kind))) {
+                compare.read(bytes);
+            }
+            for bytes in fixed::sweep(&makers::readings::accepted(kind, &mut Rng::new(3))) {
+                compare.read(&bytes);
+            }
+        }
+        for k in 0..count {
+            if k % 8 == 0 {
+                let kind = rng.between(1, 7) as u8;
+                let words = makers::card_of_kind(kind, &mut rng);
+                compare.read(&bytes_of(&words));
+            } else {
+                compare.read(&makers::readings::reading(&mut rng));
+            }
+        }
+    }
+
+    for (label, agreed) in &compare.agreed {
+        println!("{label}: {agreed} agreed");
+    }
+    let agreed: u64 = compare.agreed.values().sum();
+    println!("{agreed} agreed, {} differ", compare.differing);
+    if compare.differing == 0 {
+        ExitCode::SUCCESS
+    } else {
+        ExitCode::FAILURE
+    }
+}

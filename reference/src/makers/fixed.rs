@@ -1,0 +1,575 @@
+//! Cards that are always tried: document 01's examples, the reader's traps, and sweeps over one card.
+
+use super::numbers::{self, power};
+use super::words_of;
+use crate::card::{self, bytes_of, Head, Refusal, Role};
+use crate::random::Rng;
+
+fn head(kind: u8, n: usize, d: usize) -> u64 {
+    Head { kind, n, d, ..Head::default() }.word()
+}
+
+fn with_numbers(mut words: Vec<u64>, values: &[f64]) -> Vec<u64> {
+    words.extend(words_of(values));
+    words
+}
+
+pub fn density(n: usize, tolerance: f64, expectations: &[f64]) -> Vec<u64> {
+    with_numbers(vec![head(1, n, 0), tolerance.to_bits()], expectations)
+}
+
+/// A real estimate, by rows.
+pub fn projection(d: usize, tolerance: f64, rotations: u64, real: &[f64]) -> Vec<u64> {
+    let parts: Vec<f64> = real.iter().flat_map(|&re| [re, 0.0]).collect();
+    with_numbers(vec![head(2, 0, d), tolerance.to_bits(), rotations], &parts)
+}
+
+pub fn process(n: usize, tolerance: f64, inputs: &[f64], outputs: &[f64]) -> Vec<u64> {
+    with_numbers(with_numbers(vec![head(3, n, 0), tolerance.to_bits()], inputs), outputs)
+}
+
+pub fn physical(n: usize, tolerance: f64, rotations: u64, values: &[f64]) -> Vec<u64> {
+    with_numbers(vec![head(4, n, 0), tolerance.to_bits(), rotations], values)
+}
+
+pub fn diagonal(values: &[f64]) -> Vec<f64> {
+    let d = values.len();
+    let mut matrix = vec![0.0; d * d];
+    for (i, &x) in values.iter().enumerate() {
+        matrix[i * d + i] = x;
+    }
+    matrix
+}
+
+/// State, effects, gates with their name words.
+pub struct Parts {
+    pub state: Vec<f64>,
+    pub effects: Vec<Vec<f64>>,
+    pub gates: Vec<(u64, Vec<f64>)>,
+}
+
+impl Parts {
+    fn words(&self) -> Vec<u64> {
+        let mut words = with_numbers(words_of(&self.state), &self.effects.concat());
+        for (name, values) in &self.gates {
+            words.push(*name);
+            words.extend(words_of(values));
+        }
+        words
+    }
+
+    fn head(&self, kind: u8, records: usize, coordinates: usize) -> u64 {
+        let (d, effects, gates) = (self.state.len(), self.effects.len(), self.gates.len());
+        Head { kind, d, effects, gates, records, coordinates, ..Head::default() }.word()
+    }
+}
+
+/// A record's words.
+pub fn record(sequence: &[u64], counts: &[u64]) -> Vec<u64> {
+    let mut words = vec![(sequence.len() as u64) << 56, 0, 0, 0, 0];
+    for (k, gate) in sequence.iter().enumerate() {
+        words[1 + k / 16] |= gate << (60 - 4 * (k % 16));
+    }
+    words.extend(counts);
+    words
+}
+
+/// The Rust's default controls.
+pub fn default_controls() -> [u64; 8] {
+    let f = f64::to_bits;
+    [200, f(0.1), f(1e-5), f(1e-8), f(1e-12), f(1e-9), 24, f(0.0)]
+}
+
+pub fn fit(controls: [u64; 8], model: &Parts, records: &[Vec<u64>], coordinates: &[u64]) -> Vec<u64> {
+    let mut words = vec![model.head(5, records.len(), coordinates.len())];
+    words.extend(controls);
+    words.extend(model.words());
+    words.extend(records.concat());
+    words.extend(coordinates);
+    words
+}
+
+pub fn gauge(model: &Parts, transform: &[f64]) -> Vec<u64> {
+    let mut words = vec![model.head(6, 0, 0)];
+    words.extend(model.words());
+    with_numbers(words, transform)
+}
+
+pub fn diagnostics(tolerance: f64, model: &Parts, records: &[Vec<u64>]) -> Vec<u64> {
+    let mut words = vec![model.head(7, records.len(), 0), tolerance.to_bits()];
+    words.extend(model.words());
+    words.extend(records.concat());
+    words
+}
+
+/// One state number, two effects of one number, no gates.
+pub fn two_outcomes(first: f64, second: f64) -> Parts {
+    Parts { state: vec![1.0], effects: vec![vec![first], vec![second]], gates: vec![] }
+}
+
+/// d 2 with a gate that mixes, a gate that swaps sign, and three effects.
+pub fn small_model() -> Parts {
+    Parts {
+        state: vec![1.0, 0.25],
+        effects: vec![vec![0.5, 0.25], vec![0.25, -0.125], vec![0.25, -0.125]],
+        gates: vec![(7, vec![1.0, 0.0, 0.125, 0.5]), (0x6964, vec![1.0, 0.0, 0.0, -1.0])],
+    }
+}
+
+/// Document 01's examples with what the sheet program prints, or its first line.
+pub fn stars() -> Vec<(Vec<u64>, &'static str)> {
+    let pure = "density 2
+3ff0000000000000 0000000000000000
+0000000000000000 0000000000000000
+0000000000000000 0000000000000000
+0000000000000000 0000000000000000
+";
+    let identity = |x: f64| density(1, 0.5, &[x, 0.0, 0.0, 1.0]);
+    let swap = |rotations| projection(2, power(-20), rotations, &[0.0, 1.0, 1.0, 0.0]);
+    let two = Parts { state: vec![1.0, 0.0], effects: vec![vec![1.0, 0.0]], gates: vec![] };
+    vec![
+        (density(1, f64::from_bits(0x3eb0000000000000), &[1.0, 0.0, 0.0, 1.0]), pure),
+        (identity(1.5), pure),
+        (identity(1.5 + power(-52)), "refused 4 3ff8000000000001 0000000000000000\n"),
+        (
+            density(1, 0.5, &[1.0, 0.0, 0.0, power(60)]),
+            "density 2
+43a0000000000000 0000000000000000
+0000000000000000 0000000000000000
+0000000000000000 0000000000000000
+c3a0000000000000 0000000000000000
+",
+        ),
+        (
+            projection(3, power(-20), 1, &diagonal(&[1.0, 0.5, -0.5])),
+            "projected 3
+3fe8000000000000 0000000000000000
+0000000000000000 0000000000000000
+0000000000000000 0000000000000000
+0000000000000000 0000000000000000
+3fd0000000000000 0000000000000000
+0000000000000000 0000000000000000
+0000000000000000 0000000000000000
+0000000000000000 0000000000000000
+0000000000000000 0000000000000000
+",
+        ),
+        (projection(1, power(-20), 1, &[power(60)]), "refused 6 0000000000000000 0000000000000000\n"),
+        (swap(1), "refused 12 0000000000000000 0000000000000000\n"),
+        (swap(2), "projected 2\n"),
+        (physical(1, 0.25, 2, &diagonal(&[1.0, 1.0, -1.0, 1.0])), "physical 1 1 0\n"),
+        (gauge(&two, &diagonal(&[1.0, power(-45)])), "refused 10 0000000000000000 0000000000000000\n"),
+        (
+            gauge(&two, &diagonal(&[1.0, power(-44)])),
+            "model 4
+3ff0000000000000
+0000000000000000
+3ff0000000000000
+0000000000000000
+",
+        ),
+        (
+            fit(default_controls(), &two_outcomes(0.5, 0.5), &[record(&[], &[1, 1])], &[2 << 60]),
+            "fit 1 0 5 1\n",
+        ),
+        (diagnostics(1e-9, &two_outcomes(power(-1074), 1.0), &[record(&[], &[1, 1])]), "diagnostics\n"),
+    ]
+}
+
+/// Cards on which the reader is easily wrong, with its reading.
+pub fn traps() -> Vec<(Vec<u8>, Result<u8, Refusal>)> {
+    let at = |place: u64| Err(Refusal::new(15, place, 0));
+    let length = |wanted: u64, found: u64| Err(Refusal::new(2, wanted, found));
+    let qubits = Err(Refusal::new(1, 0, 0));
+    let mut list: Vec<(Vec<u8>, Result<u8, Refusal>)> = vec![(vec![], at(0))];
+    let mut put = |words: Vec<u64>, reading| list.push((bytes_of(&words), reading));
+
+    // Word 0.
+    for kind in [0u64, 8, 9, 15] {
+        put(vec![kind << 60 | 1 << 56], at(0));
+        put(vec![kind << 60 | 1 << 56, 0, 0, 0, 0, 0], at(0));
+    }
+    put(vec![head(2, 1, 1), 0, 0, 0, 0], at(0));
+    put(vec![head(2, 0, 0), 0, 0], at(0));
+    put(vec![head(2, 0, 17)], at(0));
+    put(vec![head(5, 0, 17)], at(0));
+    put(vec![head(7, 2, 1), 0, 0], at(0));
+    put(vec![head(1, 1, 0) | 1, 0, 0, 0, 0, 0], at(0));
+    put(vec![head(1, 0, 0) | 1], at(0));
+    put(vec![head(4, 9, 0) | 1 << 8], at(0));
+    put(vec![head(6, 0, 1) | 1 << 16, 0, 0], at(0));
+    put(vec![head(7, 0, 1) | 1 << 8, 0, 0], at(0));
+    put(vec![Head { kind: 5, effects: 17, ..Head::default() }.word()], at(0));
+    put(vec![Head { kind: 5, gates: 9, ..Head::default() }.word()], at(0));
+    put(vec![Head { kind: 7, records: 201, ..Head::default() }.word()], at(0));
+    put(vec![Head { kind: 5, coordinates: 65, ..Head::default() }.word()], at(0));
+
+    // n at fault: no other word is looked at, the size is.
+    for n in [0, 4, 15] {
+        put(vec![head(1, n, 0)], qubits);
+    }
+    put(vec![head(3, 3, 0), 1, 2, 3], qubits);
+    put(vec![head(4, 3, 0), 0, u64::MAX], qubits);
+    put(vec![head(4, 0, 0), 0, u64::MAX], qubits);
+
+    // Lengths count word 0.
+    for n in 1..=3 {
+        let wanted = 2 + (1 << (2 * n)) as u64;
+        put(vec![head(1, n, 0)], length(wanted, 1));
+        put(vec![head(1, n, 0); wanted as usize + 1], length(wanted, wanted + 1));
+        put(vec![head(1, n, 0); wanted as usize], Ok(1));
+    }
+    put(vec![head(2, 0, 16)], length(515, 1));
+    put(vec![head(3, 2, 0)], length(514, 1));
+    put(vec![head(4, 2, 0)], length(259, 1));
+    put(vec![head(5, 0, 0)], length(9, 1));
+    put(vec![head(6, 0, 0)], Ok(6));
+    put(vec![head(7, 0, 0), 0], Ok(7));
+    put([vec![head(5, 0, 0)], vec![0; 8]].concat(), Ok(5));
+
+    // Rotations, with the length right, too short, too long.
+    put(projection(1, 1.0, 64, &[1.0]), Ok(2));
+    put(projection(1, 1.0, 65, &[1.0]), at(2));
+    put(projection(16, 1.0, 16_384, &[]), length(515, 3));
+    put(projection(16, 1.0, 16_385, &[]), at(2));
+    put(projection(1, 1.0, 0, &[1.0, 1.0]), length(5, 7));
+    put(projection(1, 1.0, u64::MAX, &[1.0, 1.0]), at(2));
+    put(vec![head(2, 0, 1), 0], length(5, 2));
+    put(physical(1, 1.0, 1024, &[0.0; 16]), Ok(4));
+    put(physical(1, 1.0, 1025, &[0.0; 16]), at(2));
+    put(physical(2, 1.0, 16_384, &[0.0; 256]), Ok(4));
+    put(physical(2, 1.0, 16_385, &[]), at(2));
+
+    // Controls.
+    let model = small_model();
+    let fit_with = |controls: [u64; 8]| fit(controls, &model, &[], &[]);
+    let mut controls = [0; 8];
+    put(fit_with(controls), Ok(5));
+    controls[0] = 65_535;
+    controls[6] = 255;
+    put(fit_with(controls), Ok(5));
+    controls[6] = 256;
+    put(fit_with(controls), at(7));
+    controls[0] = 65_536;
+    put(fit_with(controls), at(1));
+    controls[6] = 255;
+    put(fit_with(controls), at(1));
+    put(vec![head(5, 0, 0), 65_536], at(1));
+
+    // Records. The model of kind 7 ends before place 2 + M.
+    let first = 2 + model.words().len() as u64;
+    let sevens = |words: Vec<u64>, records: usize| {
+        let mut card = diagnostics(1.0, &model, &[]);
+        card[0] = model.head(7, records, 0);
+        card.extend(words);
+        card
+    };
+    for used in 0..=64u64 {
+        put(sevens(record(&vec![15; used as usize], &[1, 2, 3]), 1), Ok(7));
+        if used < 64 {
+            let mut words = record(&vec![0; used as usize], &[1, 2, 3]);
+            let word = used as usize / 16;
+            words[1 + word] |= 1 << (60 - 4 * (used % 16));
+            put(sevens(words, 1), at(first + 1 + word as u64));
+        }
+    }
+    put(sevens(vec![65 << 56, 0, 0, 0, 0, 0, 0, 0], 1), at(first));
+    put(sevens(vec![255 << 56, 0, 0, 0, 0, 0, 0, 0], 1), at(first));
+    for bit in [0, 1, 31, 55] {
+        put(sevens(vec![1 << bit, 0, 0, 0, 0, 0, 0, 0], 1), at(first));
+    }
+    put(sevens(vec![0, 0, 0, 0, 1, 0, 0, 0], 1), at(first + 4));
+    put(sevens([record(&[0], &[0, 0, 0]), vec![0, 1]].concat(), 2), at(first + 9));
+    put(sevens([record(&[0], &[0, 0, 0]), vec![0, 0]].concat(), 2), length(first + 16, first + 10));
+    // A word beyond the layout has no rule.
+    put(sevens([record(&[0], &[0, 0, 0]), vec![u64::MAX; 5]].concat(), 1), length(first + 8, first + 13));
+
+    // Coordinates.
+    let place = 9 + model.words().len() as u64;
+    let coordinates = |words: &[u64]| fit([0; 8], &model, &[], words);
+    for kind in [0, 4, 8, 15] {
+        put(coordinates(&[kind << 60]), at(place));
+    }
+    for word in [1 << 60 | 0xff_ffff, 2 << 60 | 0x0fff_0000_00ff_ffff, 3 << 60 | u64::MAX >> 4] {
+        put(coordinates(&[word]), Ok(5));
+    }
+    for word in [1 << 60 | 1 << 48, 1 << 60 | 1 << 24, 1 << 60 | 1 << 59, 2 << 60 | 1 << 47, 2 << 60 | 1 << 24] {
+        put(coordinates(&[word]), at(place));
+        put(coordinates(&[1 << 60, 1 << 60, word, 0]), at(place + 2));
+    }
+    let mut both = fit([0; 8], &model, &[record(&[0], &[0, 0, 0])], &[0]);
+    put(both.clone(), at(place + 8));
+    both[place as usize + 4] = 1;
+    put(both, at(place + 4));
+
+    // Cut words, and the largest size.
+    for extra in 1..8 {
+        list.push((vec![0x11; extra], at(0)));
+        list.push(([bytes_of(&[head(4, 3, 0), 0]), vec![0xff; extra]].concat(), at(2)));
+        list.push(([bytes_of(&projection(1, 1.0, 65, &[])), vec![0; extra]].concat(), at(2)));
+        list.push(([bytes_of(&projection(1, 1.0, 64, &[])), vec![0; extra]].concat(), at(3)));
+        // Rotations cut short are not looked at.
+        list.push(([bytes_of(&[head(2, 0, 1), 0]), vec![0xff; extra]].concat(), at(2)));
+        list.push(([bytes_of(&density(1, 1.0, &[1.0; 4])), vec![0; extra]].concat(), at(6)));
+    }
+    let large = |mut words: Vec<u64>, size: usize| {
+        words.resize(size / 8 + 1, 0);
+        let mut bytes = bytes_of(&words);
+        bytes.truncate(size);
+        bytes
+    };
+    let one = vec![head(1, 1, 0)];
+    list.push((large(one.clone(), 65_536), length(6, 8192)));
+    list.push((large(one.clone(), 65_537), at(8192)));
+    list.push((large(one.clone(), 65_535), at(8191)));
+    list.push((large(one.clone(), 65_544), at(8192)));
+    list.push((large(one, 65_545), at(8192)));
+    list.push((large(sevens(vec![1], 1), 65_544), at(first)));
+    list.push((large(vec![head(4, 3, 0), 0, u64::MAX], 65_544), at(8192)));
+    list.push((large(vec![head(4, 3, 0), 0, u64::MAX], 65_536), qubits));
+    list.push((large(vec![0], 70_001), at(0)));
+    list
+}
+
+/// Kind 1 cards at every edge of its conditions.
+fn density_edges() -> Vec<Vec<u64>> {
+    let mut list = Vec::new();
+    let mut rng = Rng::new(1);
+    let usual = |n: usize, rng: &mut Rng| -> Vec<f64> {
+        (0..1 << (2 * n)).map(|k| if k == 0 { 1.0 } else { rng.signed() }).collect()
+    };
+    for &bits in numbers::SPECIALS {
+        list.push(density(1, f64::from_bits(bits), &[1.0, 0.5, -0.25, 0.75]));
+        // Two faults at once.
+        list.push(density(1, f64::from_bits(bits), &[1.5, f64::NAN, 0.0, 0.0]));
+        list.push(density(1, f64::from_bits(bits), &[f64::INFINITY, 0.0, 0.0, 0.0]));
+        for place in 0..4 {
+            let mut values = [1.0, 0.5, -0.25, 0.75];
+            values[place] = f64::from_bits(bits);
+            list.push(density(1, 0.5, &values));
+        }
+    }
+    for tolerance in [power(-53), power(-52), power(-20), 1e-9, 0.5, 1.0, 2.0, 1e308, f64::MAX, 5e-324, 1e-310] {
+        for edge in [1.0 + tolerance, 1.0 - tolerance] {
+            for identity in [edge, edge.next_up(), edge.next_down()] {
+                list.push(density(1, tolerance, &[identity, 0.0, 0.0, 1.0]));
+            }
+        }
+    }
+    for n in 1..=3 {
+        let count = 1 << (2 * n);
+        list.push(density(n, 1e-9, &usual(n, &mut rng)));
+        for value in [f64::MAX, -f64::MAX, 5e-324, -5e-324, -0.0, f64::MIN_POSITIVE, 1e-310] {
+            let mut values = vec![value; count];
+            values[0] = 1.0;
+            list.push(density(n, 1e-9, &values));
+        }
+        for place in 0..count {
+            for value in [f64::NAN, f64::NEG_INFINITY, f64::MAX, -1.0] {
+                let mut values = if value == -1.0 { vec![-0.0; count] } else { usual(n, &mut rng) };
+                values[0] = 1.0;
+                values[place] = value;
+                list.push(density(n, 0.5, &values));
+            }
+        }
+    }
+    list
+}
+
+/// Kinds 2 to 7: a few cards of each that stand at an edge.
+fn other_edges(kind: u8) -> Vec<Vec<u64>> {
+    let mut list = Vec::new();
+    match kind {
+        2 => {
+            for x in [-1e308, 1e308, f64::MAX, -f64::MAX, power(53), power(54), power(60), -power(60), 0.0, -0.0, 5e-324] {
+                for rotations in [0, 1, 64] {
+                    list.push(projection(1, 1e-9, rotations, &[x]));
+                }
+                list.push(projection(2, 1e-9, 256, &diagonal(&[x, 0.5])));
+                list.push(projection(2, 1e-9, 256, &[0.5, x, x, 0.5]));
+                list.push(projection(3, 0.5, 576, &[x, x, x, x, -x, x, x, x, x]));
+            }
+            for d in 1..=16 {
+                list.push(projection(d, 1e-9, 64 * (d * d) as u64, &vec![1.0; d * d]));
+            }
+        }
+        3 => {
+            let probes = [1., 0., 0., 1., 1., 0., 0., -1., 1., 1., 0., 0., 1., 0., 1., 0.];
+            list.push(process(1, 1e-9, &probes, &probes));
+            let mut inputs = probes;
+            for (tolerance, identity, other) in
+                [(0.0, 1.0, 1.0), (0.5, 1.5, 1.0), (0.5, 1.75, f64::NAN), (0.5, 1.0, f64::NAN), (0.9, 1.0, 1.0)]
+            {
+                inputs[0] = identity;
+                inputs[5] = other;
+                list.push(process(1, tolerance, &inputs, &probes));
+            }
+            list.push(process(1, 1e-9, &[1.0; 16], &probes));
+            list.push(process(1, 1e-9, &probes, &probes.map(|x| if x == 0.0 { f64::MAX } else { 1.0 })));
+        }
+        4 => {
+            for x in [0.25, 0.25 + power(-54), f64::MAX, f64::INFINITY, f64::NAN, -0.25] {
+                let mut values = diagonal(&[1.0, 1.0, 1.0, 1.0]);
+                for place in [1, 4, 15] {
+                    values[place] = x;
+                    for rotations in [0, 1, 2, 1024] {
+                        list.push(physical(1, 0.25, rotations, &values));
+                    }
+                }
+            }
+            list.push(physical(1, f64::NAN, 0, &[0.0; 16]));
+        }
+        5 => {
+            let model = small_model();
+            let records = [record(&[0, 1, 0], &[5, 3, 2]), record(&[], &[4, 1, 1])];
+            let coordinates = [1 << 60 | 1, 3 << 60 | 1 << 24 | 1, 3 << 60 | 1 << 48 | 1 << 24];
+            for iterations in [1, 2, 5, 200] {
+                let mut controls = default_controls();
+                controls[0] = iterations;
+                list.push(fit(controls, &model, &records, &coordinates));
+                controls[5] = 0.25f64.to_bits();
+                list.push(fit(controls, &model, &records, &[2 << 60, 2 << 60 | 1 << 48 | 1]));
+            }
+            for place in 0..8 {
+                for value in [0, u64::MAX, (-1.0f64).to_bits(), f64::INFINITY.to_bits()] {
+                    let mut controls = default_controls();
+                    controls[place] = value;
+                    list.push(fit(controls, &model, &records, &coordinates));
+                }
+            }
+            let state = 1 << 60;
+            for coordinates in [
+                vec![],
+                vec![state, state | 9, state],
+                vec![state, state, state | 9],
+                vec![3 << 60 | 2 << 48],
+                vec![3 << 60 | 3],
+                vec![3 << 60 | 1 << 24 | 2],
+                vec![3 << 60 | 3, 3 << 60 | 1 << 24 | 1],
+                vec![2 << 60 | 3 << 48],
+            ] {
+                list.push(fit(default_controls(), &model, &records, &coordinates));
+                list.push(fit(default_controls(), &model, &[], &coordinates));
+            }
+        }
+        6 => {
+            let mut model = small_model();
+            for x in [1.0, -1.0, 0.0, power(-44), power(-43), power(-45), 1e308, f64::NAN] {
+                list.push(gauge(&model, &diagonal(&[1.0, x])));
+                list.push(gauge(&model, &[x, 1.0, 1.0, x]));
+            }
+            model.gates[1].0 = 7;
+            list.push(gauge(&model, &diagonal(&[1.0, 1.0])));
+            model.gates[0].0 = 0;
+            list.push(gauge(&model, &diagonal(&[1.0, 1.0])));
+            model.state[1] = f64::NAN;
+            list.push(gauge(&model, &diagonal(&[1.0, 1.0])));
+            model.effects.clear();
+            list.push(gauge(&model, &diagonal(&[1.0, 1.0])));
+            model.state[1] = 0.0;
+            list.push(gauge(&model, &diagonal(&[1.0, 1.0])));
+            list.push(vec![head(6, 0, 0)]);
+        }
+        _ => {
+            let model = small_model();
+            for counts in [[0, 0, 0], [1, 0, 0], [u64::MAX, 0, 0], [u64::MAX, 1, 0], [1 << 63, 1 << 63, 0], [1, 2, 3]] {
+                for gate in 0..3 {
+                    let two = [record(&[gate], &counts), record(&[2, 1], &[1, 1, 1])];
+                    list.push(diagnostics(1e-9, &model, &two[..1]));
+                    list.push(diagnostics(1e-9, &model, &two));
+                }
+            }
+            for (p, q) in [(0.0, 1.0), (-0.0, 1.0), (1.0, -0.0), (-1e-10, 1.0), (1.0 + 1e-10, 0.0), (0.5, 0.6), (f64::MAX, 1.0)] {
+                for counts in [[1, 1], [0, 1], [1, 0], [0, 0], [3, 4]] {
+                    list.push(diagnostics(1e-9, &two_outcomes(p, q), &[record(&[], &counts)]));
+                }
+            }
+            list.push(diagnostics(0.0, &two_outcomes(0.5, 0.5), &[]));
+            list.push(diagnostics(1e-9, &two_outcomes(0.5, 0.5), &[]));
+        }
+    }
+    list
+}
+
+/// All cards of one kind that are always tried but for the sweeps.
+pub fn edges(kind: u8) -> Vec<Vec<u8>> {
+    let mut list: Vec<Vec<u64>> =
+        stars().into_iter().map(|(words, _)| words).filter(|words| words[0] >> 60 == u64::from(kind)).collect();
+    list.extend(if kind == 1 { density_edges() } else { other_edges(kind) });
+    list.iter().map(|words| bytes_of(words)).collect()
+}
+
+/// A small card of each kind that the sheet entry accepts.
+pub fn base(kind: u8) -> Vec<u64> {
+    let model = small_model();
+    match kind {
+        1 => density(1, 0.5, &[1.25, 0.5, -0.25, 0.125]),
+        2 => projection(2, 1e-9, 256, &[0.5, 0.25, -0.125, 0.75]),
+        3 => {
+            let probes = [1., 0., 0., 1., 1., 0., 0., -1., 1., 1., 0., 0., 1., 0., 1., 0.];
+            process(1, 1e-9, &probes, &probes)
+        }
+        4 => physical(1, 0.25, 1024, &diagonal(&[1.0, 0.5, -0.5, 0.25])),
+        5 => {
+            let mut controls = default_controls();
+            controls[0] = 3;
+            fit(controls, &model, &[record(&[0, 1], &[5, 3, 2])], &[1 << 60 | 1, 3 << 60 | 1 << 24 | 1])
+        }
+        6 => gauge(&model, &[1.0, 0.5, 0.25, 2.0]),
+        7 => diagnostics(1e-9, &model, &[record(&[0, 1], &[5, 3, 2]), record(&[], &[1, 0, 0])]),
+        _ => panic!("no kind {kind}"),
+    }
+}
+
+/// One card cut at every byte, lengthened, with every bit flipped (in a long card only of words that have a rule), with
+/// every value of each field of word 0, and with each word that has a rule at its limit.
+pub fn sweep(words: &[u64]) -> Vec<Vec<u8>> {
+    let bytes = bytes_of(words);
+    let roles = card::layout(&Head::of(words[0]));
+    let mut list: Vec<Vec<u8>> = (0..bytes.len()).map(|size| bytes[..size].to_vec()).collect();
+    for extra in 0..=17 {
+        list.push([bytes.clone(), vec![0; extra]].concat());
+        list.push([bytes.clone(), vec![0xff; extra]].concat());
+    }
+    for bit in 0..8 * bytes.len() {
+        if words.len() > 64 && matches!(roles[bit / 64], Role::Number | Role::Name | Role::Count) {
+            continue;
+        }
+        let mut changed = bytes.clone();
+        changed[bit / 8] ^= 128 >> (bit % 8);
+        list.push(changed);
+    }
+    for (low, width) in [(60, 4), (56, 4), (48, 8), (40, 8), (32, 8), (8, 8), (0, 8)] {
+        for value in 0..1u64 << width {
+            let mut changed = words.to_vec();
+            changed[0] = changed[0] & !(((1 << width) - 1) << low) | value << low;
+            list.push(bytes_of(&changed));
+        }
+    }
+    for records in [0, 1, 2, 199, 200, 201, 65_535] {
+        let mut changed = words.to_vec();
+        changed[0] = changed[0] & !(0xffff << 16) | records << 16;
+        list.push(bytes_of(&changed));
+    }
+    for (place, role) in roles.into_iter().enumerate() {
+        let limits: &[u64] = match role {
+            Role::Rotations { most } => &[most - 1, most, most + 1, 0, u64::MAX],
+            Role::Iterations => &[0, 65_536, u64::MAX],
+            Role::Backtracks => &[0, 254, 255, 256, u64::MAX],
+            Role::Length => &[64 << 56, 65 << 56, u64::MAX],
+            Role::Indices(_) | Role::Coordinate => &[0, u64::MAX],
+            _ => &[],
+        };
+        for &value in limits {
+            let mut changed = words.to_vec();
+            changed[place] = value;
+            list.push(bytes_of(&changed));
+        }
+    }
+    for size in [65_528, 65_535, 65_536, 65_537, 65_543, 65_544, 65_545] {
+        let mut changed = bytes.clone();
+        changed.resize(size, 0);
+        list.push(changed);
+    }
+    list
+}

@@ -1,0 +1,44 @@
+//! The port's entry points in its static library. Nothing checks these declarations against the port's source.
+
+extern "C" {
+    fn mintshuttle_sheet(
+        card: *const u8,
+        card_len: usize,
+        result: *mut u64,
+        result_len: usize,
+        work: *mut f64,
+        work_len: usize,
+        answer: *mut u64,
+        answer_len: usize,
+    ) -> u64;
+
+    fn mintshuttle_read(card: *const u8, card_len: usize, answer: *mut u64, answer_len: usize) -> u64;
+}
+
+/// The least lengths of the lent slices.
+pub const RESULT_WORDS: usize = 4096;
+pub const WORK_WORDS: usize = 8192;
+pub const ANSWER_WORDS: usize = 5;
+
+/// The sheet of a card. `work` holds the bits of floats, so that any NaN can be lent.
+pub fn sheet(card: &[u8], result: &mut [u64], work: &mut [u64], answer: &mut [u64]) -> u64 {
+    // SAFETY: each pointer comes with its slice's length, and f64 has the size and alignment of u64.
+    unsafe {
+        mintshuttle_sheet(
+            card.as_ptr(),
+            card.len(),
+            result.as_mut_ptr(),
+            result.len(),
+            work.as_mut_ptr().cast::<f64>(),
+            work.len(),
+            answer.as_mut_ptr(),
+            answer.len(),
+        )
+    }
+}
+
+/// The reader alone.
+pub fn read(card: &[u8], answer: &mut [u64]) -> u64 {
+    // SAFETY: each pointer comes with its slice's length.
+    unsafe { mintshuttle_read(card.as_ptr(), card.len(), answer.as_mut_ptr(), answer.len()) }
+}
