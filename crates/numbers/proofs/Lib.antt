@@ -2,3 +2,4 @@ pub mod Leaves
 pub mod Finite
 pub mod Values
 pub mod Zeros
+pub mod Slices

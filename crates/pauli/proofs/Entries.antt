@@ -9,7 +9,7 @@ use lib.Dec.{eqb, ltb, lit<}
 use borrow.Author.Tests.{eq-eqb, ne-eqb, eqb-true, eqb-false}
 use lib.IntN.{ℤ, pos, negsuc, zero-*ℤ, *ℤ-zero}
 use Rattle.lists.proofs.Choices.{yes, no}
-use Rattle.pauli.specs.Exact.{Gaussian, none, one, i, minusOne, minusI, times, pauliMatrices, pauliEntry, stringEntry}
+use Rattle.pauli.specs.Exact.{Gaussian, none, one, i, minusOne, minusI, product, pauliMatrices, pauliEntry, stringEntry}
 use Rattle.pauli.specs.Entry.{flipped, turned, filledColumn, filledPower, powerOfI}
 use Rattle.pauli.proofs.Digits.{power-small}
 
@@ -40,10 +40,10 @@ axis-row =
     (below-two _ (below-two _ refl refl) (below-two _ refl refl))
 
 -- powers of i multiply by adding
-times-powers : (p : ℕ) → p < 4 → (q : ℕ) → q < 4 → times (powerOfI p) (powerOfI q) ≡ powerOfI ((p + q) % 4)
-unfolding times powerOfI
+times-powers : (p : ℕ) → p < 4 → (q : ℕ) → q < 4 → product (powerOfI p) (powerOfI q) ≡ powerOfI ((p + q) % 4)
+unfolding product powerOfI
 times-powers =
-    below-four (λ p. (q : ℕ) → q < 4 → times (powerOfI p) (powerOfI q) ≡ powerOfI ((p + q) % 4))
+    below-four (λ p. (q : ℕ) → q < 4 → product (powerOfI p) (powerOfI q) ≡ powerOfI ((p + q) % 4))
     (below-four _ refl refl refl refl)
     (below-four _ refl refl refl refl)
     (below-four _ refl refl refl refl)
@@ -74,20 +74,20 @@ column-small (suc n) code row =
     omega (arith, two-pow-succ n, column-small n (code / 4) (row / 2), flipped-small (code % 4) (omega arith) (row % 2) (omega arith))
 
 -- zero times anything, and anything times zero
-none-times : (z : Gaussian) → times none z ≡ none
-unfolding times
+none-times : (z : Gaussian) → product none z ≡ none
+unfolding product
 none-times z = rw (zero-*ℤ (z .re), zero-*ℤ (z .im))
 
-times-none : (z : Gaussian) → times z none ≡ none
-unfolding times
+times-none : (z : Gaussian) → product z none ≡ none
+unfolding product
 times-none z = rw (*ℤ-zero (z .re), *ℤ-zero (z .im))
 
 -- two rows multiplied: F and f are the filled columns, P and t the powers
-row-times : (F f P t c : ℕ) → f < 2 → P < 4 → t < 4 → times (rowOf F P (c / 2)) (rowOf f t (c % 2)) ≡ rowOf (F * 2 + f) ((P + t) % 4) c
+row-times : (F f P t c : ℕ) → f < 2 → P < 4 → t < 4 → product (rowOf F P (c / 2)) (rowOf f t (c % 2)) ≡ rowOf (F * 2 + f) ((P + t) % 4) c
 row-times F f P t c hf hP ht = go (eqb (c / 2) F) (eqb (c % 2) f) refl refl
   where
     go : (a b : Bool) → eqb (c / 2) F ≡ a → eqb (c % 2) f ≡ b
-        → times (cond a (powerOfI P) none) (cond b (powerOfI t) none) ≡ rowOf (F * 2 + f) ((P + t) % 4) c
+        → product (cond a (powerOfI P) none) (cond b (powerOfI t) none) ≡ rowOf (F * 2 + f) ((P + t) % 4) c
     go true true p q =
         let e : c ≡ F * 2 + f = omega (arith, eqb-true (c / 2) F p, eqb-true (c % 2) f q) in
         times-powers P hP t ht ∙ yes none (eq-eqb c (F * 2 + f) e)
@@ -103,6 +103,6 @@ pub entry-is : (n code row column : ℕ) → column < 2 ^ n → stringEntry n co
 unfolding stringEntry filledColumn filledPower powerOfI
 entry-is zero code row column h = let z : column ≡ 0 = omega arith in rw z
 entry-is (suc n) code row column h =
-    ap₂ times (entry-is n (code / 4) (row / 2) (column / 2) (omega (arith, two-pow-succ n))) (axis-row (code % 4) (omega arith) (row % 2) (omega arith) (column % 2) (omega arith))
+    ap₂ product (entry-is n (code / 4) (row / 2) (column / 2) (omega (arith, two-pow-succ n))) (axis-row (code % 4) (omega arith) (row % 2) (omega arith) (column % 2) (omega arith))
     ∙ row-times (filledColumn n (code / 4) (row / 2)) (flipped (code % 4) (row % 2)) (filledPower n (code / 4) (row / 2)) (turned (code % 4) (row % 2)) column
     (flipped-small (code % 4) (omega arith) (row % 2) (omega arith)) (power-small n (code / 4) (row / 2)) (turned-small (code % 4) (omega arith) (row % 2) (omega arith))

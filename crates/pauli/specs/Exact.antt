@@ -27,8 +27,8 @@ i = gaussian (pos 0) (pos 1)
 abbrev pub minusI : Gaussian
 minusI = gaussian (pos 0) (negsuc 0)
 
-unfoldable pub times : Gaussian → Gaussian → Gaussian
-times x y = gaussian (x .re *ℤ y .re -ℤ x .im *ℤ y .im) (x .re *ℤ y .im +ℤ x .im *ℤ y .re)
+unfoldable pub product : Gaussian → Gaussian → Gaussian
+product x y = gaussian (x .re *ℤ y .re -ℤ x .im *ℤ y .im) (x .re *ℤ y .im +ℤ x .im *ℤ y .re)
 
 -- the matrices I, X, Y and Z of the axes 0 to 3, by rows
 unfoldable pub pauliMatrices : List (List Gaussian)
@@ -50,4 +50,4 @@ pauliEntry axis row column = getD (getD pauliMatrices axis []) (row * 2 + column
 -- Of a tensor product A ⊗ B with 2 by 2 matrices B the entry (2 r + x, 2 c + y) is A (r, c) times B (x, y).
 unfoldable pub stringEntry : ℕ → ℕ → ℕ → ℕ → Gaussian
 stringEntry zero code row column = one
-stringEntry (suc n) code row column = times (stringEntry n (code / 4) (row / 2) (column / 2)) (pauliEntry (code % 4) (row % 2) (column % 2))
+stringEntry (suc n) code row column = product (stringEntry n (code / 4) (row / 2) (column / 2)) (pauliEntry (code % 4) (row % 2) (column % 2))

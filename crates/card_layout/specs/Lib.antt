@@ -1,0 +1,4 @@
+pub mod Fields
+pub mod Limits
+pub mod Rules
+pub mod Layout

@@ -1,0 +1,24 @@
+-- `card_parts::sequence_length` meets its contract. Assumes nothing.
+use mathlib.Core.Path.{_∙_, sym}
+use native.Mathlib.Omega.{arith}
+use Rattle.card_places.proofs.Within.{record-in}
+use Rattle.card_parts.proofs.Sequences.{length-sequence}
+use borrow.Author.Needs.{needs}
+use Rattle.card_parts.proofs.sequence_length.Statement.{statement}
+use Rattle.card_parts.proofs.sequence_length.Tie as tie
+
+record-at-requires : tie.Need-record-at-requires
+record-at-requires c κs = search needs
+
+word-at-requires : tie.Need-word-at-requires
+word-at-requires c κs = omega (arith, record-in (c .before .before .args .card .now) (c .before .before .args .h) (c .before .before .pre .0) (c .before .before .args .r) (c .before .before .pre .1))
+
+length-of-requires : tie.Need-length-of-requires
+length-of-requires c κs = search needs
+
+returns : tie.Need-returns
+returns c = (cc) ∙ sym (length-sequence (c .before .before .before .before .args .card .now) (c .before .before .before .before .args .h) (c .before .before .before .before .args .r))
+
+pub sequence-length-spec : {M : Type 1} → statement M
+sequence-length-spec =
+    tie.close (tie.spec record-at-requires word-at-requires length-of-requires returns)

@@ -1,0 +1,4 @@
+pub mod ByKind
+pub mod Standing
+pub mod Within
+pub mod Sizes

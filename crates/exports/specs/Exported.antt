@@ -1,0 +1,61 @@
+-- What the C interface promises: the outcome of an entry point, with its answer in words. A slice of fewer than 5 answer words is refusal 16.
+use Prim.Native.Nat.{ℕ}
+use mathlib.Core.Path.{_≡_}
+use mathlib.Core.Bool.{Bool, cond}
+use mathlib.Core.List.{List, [], _∷_}
+use lib.Dec.{leb}
+use lib.ListN.{length}
+use lib.Ieee.{Float}
+use Rattle.lists.specs.Build.{over}
+use Rattle.numbers.specs.Slice.{blank}
+use Rattle.refusal.specs.Values.{codeOf, valueA, valueB}
+use Rattle.refusal.specs.declared.Refusal.{Refusal}
+use Rattle.refusal.specs.declared.Refusal.the-variants.{ShortBuffer}
+use Rattle.card.specs.declared.Reading.{Reading}
+use Rattle.card.specs.declared.Reading.the-variants as read
+use Rattle.card.specs.Reading.{readOf}
+use Rattle.tomography.specs.declared.Answer.{Answer}
+use Rattle.tomography.specs.declared.Answer.the-variants as answer
+use Rattle.tomography.specs.Outcome.{Outcome, refused}
+use Rattle.tomography.specs.Sheet.{outcomeOf}
+
+-- five words: the kind of the sheet and the numbers of its header, or 0 and a refusal's N, A and B; zero where there is none
+abbrev pub refusalWords : Refusal → List ℕ
+refusalWords r = 0 ∷ codeOf r ∷ valueA r ∷ valueB r ∷ 0 ∷ []
+
+abbrev pub answerWords : Answer → List ℕ
+answerWords (answer.Density d) = 1 ∷ d ∷ 0 ∷ 0 ∷ 0 ∷ []
+answerWords (answer.Refused r) = refusalWords r
+
+-- what is returned: 0 for a sheet, N for a refusal
+abbrev pub answerCode : Answer → ℕ
+answerCode (answer.Density d) = 0
+answerCode (answer.Refused r) = codeOf r
+
+abbrev pub readingWords : Reading → List ℕ
+readingWords (read.Accepted h) = h .kind ∷ 0 ∷ 0 ∷ 0 ∷ 0 ∷ []
+readingWords (read.Refused r) = refusalWords r
+
+abbrev pub readingCode : Reading → ℕ
+readingCode (read.Accepted h) = 0
+readingCode (read.Refused r) = codeOf r
+
+-- there is room for an answer
+abbrev pub answerable : List ℕ → Bool
+answerable answer = leb 5 (length answer)
+
+-- the outcome of the sheet's entry point, 16 before it where there is no room for an answer
+unfoldable pub exportedOf : List ℕ → List ℕ → List Float → List ℕ → Outcome
+exportedOf card result work answer = cond (answerable answer) (outcomeOf card result work) (refused ShortBuffer)
+
+-- the sheet of a card: every word of each slice, and what is returned
+pub record SheetExported (card result₀ result₁ : List ℕ) (work₀ work₁ : List Float) (answer₀ answer₁ : List ℕ) (r : ℕ) : Type 0 where
+  pub code : r ≡ answerCode (exportedOf card result₀ work₀ answer₀ .answer)
+  pub answer : answer₁ ≡ cond (answerable answer₀) (over (answerWords (exportedOf card result₀ work₀ answer₀ .answer)) answer₀) answer₀
+  pub result : result₁ ≡ over (exportedOf card result₀ work₀ answer₀ .words) result₀
+  pub work : work₁ ≡ blank work₀
+
+-- the reading of a card
+pub record ReadExported (card answer₀ answer₁ : List ℕ) (r : ℕ) : Type 0 where
+  pub code : r ≡ cond (answerable answer₀) (readingCode (readOf card)) 16
+  pub answer : answer₁ ≡ cond (answerable answer₀) (over (readingWords (readOf card)) answer₀) answer₀
