@@ -6,10 +6,10 @@ use mathlib.Core.List.{List, [], _∷_}
 use mathlib.Core.Logic.{⊎-elim}
 use native.Mathlib.Nat.{add-zero, eq-or-lt-of-le, not-suc-le-zero}
 use native.Mathlib.Omega.{arith}
-use borrow.Author.Tests.{ltb-false, eqb-true, eq-eqb, lt-ltb, not-false}
-use lib.ListN.{length, getD}
+use borrow.Author.Tests.{ltb-true, ne-eqb, le-ltb, ltb-false, eqb-true, eq-eqb, lt-ltb, not-false}
+use lib.ListN.{length, getD, List·getD-eq-default}
 use lib.Dec.{ltb, eqb, lit<}
-use Rattle.booleans.proofs.Joined.{clash, neither, first-not}
+use Rattle.booleans.proofs.Joined.{clash, neither, or-no, first-not}
 use Rattle.numbers.specs.Word.{wordsIn, wordAt}
 use Rattle.refusal.specs.declared.Refusal.the-variants.{InvalidQubits, Shape}
 use Rattle.card_layout.specs.declared.Header.{Header}
@@ -18,11 +18,13 @@ use Rattle.card_layout.specs.Fields.{coordinateOf, lengthOf, restOf}
 use Rattle.card_layout.specs.Limits.{limitsOf, longest, mostWords, mostRotations}
 use Rattle.card_layout.specs.Rules.{qubitsBreak, word0Breaks, sequenceBreaks, coordinateBreaks}
 use Rattle.card_layout.specs.Layout.{Role, word0, number, atMost, sequence, coordinate, controlRoles, recordRoles, layout, faulty, breaks}
-use Rattle.card_layout.proofs.EachKind.{within, some-matrix, some-qubits, few-qubits}
+use Rattle.card_layout.proofs.EachKind.{keeps, some-matrix, some-qubits, few-qubits}
 use Rattle.card_layout.proofs.Lengths.{length-record}
 use Rattle.card_places.specs.Places.{wantedWords, recordAt, coordinateAt}
 use Rattle.card_places.proofs.ByKind.{after2, after4, words1, words2, words3, words4, words5, words6, words7}
 use Rattle.card_places.proofs.Standing.{Stands, stands-fits, stands-role, controls-stand, record-stands, coordinate-stands}
+use Rattle.card_places.specs.Shape.{Shaped}
+use Rattle.card_places.proofs.Sizes.{wanted-most}
 use Rattle.card_places.proofs.Within.{shaped}
 use Rattle.card_parts.specs.Parts.{Sequence, coordinateIn}
 use Rattle.card_parts.proofs.Sequences.{length-sequence}
@@ -31,7 +33,8 @@ use Rattle.card_faults.specs.declared.Fault.the-variants.{At, Nothing}
 use Rattle.card_faults.specs.Walk.{firstOf}
 use Rattle.card.specs.declared.Reading.the-variants.{Refused, Accepted}
 use Rattle.card.specs.Reading.{header, examined, wordAtFault, sizeAtFault, atFault, lowest, faultOf, lengthRead, afterFault, readOf}
-use Rattle.card.specs.Accepts.{Inversion, Projection, Process, Transfer, Fit, Names, Accepts}
+use Rattle.card.proofs.Lowest.{lowest-none}
+use Rattle.card.specs.Accepts.{InversionCard, ProjectionCard, ProcessCard, TransferCard, FitCard, Names, Accepts}
 
 -- ---- The tests that acceptance passed
 split : (f : Fault) (b t : Bool) (w n : ℕ) (g h : Header) → afterFault f (cond b (Refused InvalidQubits) (cond t (Accepted g) (Refused (Shape w n)))) ≡ Accepted h → (f ≡ Nothing) × (b ≡ false) × (t ≡ true) × (g ≡ h)
@@ -169,11 +172,11 @@ module _ (s : List ℕ) (h : Header) (a : Passed s h) where
   words : (n : ℕ) → wantedWords h ≡ n → length s ≡ 8 * n
   words n e = size ∙ ap (λ (x : ℕ). 8 * x) e
 
-  inversion : h .kind ≡ 1 → Inversion s h
+  inversion : h .kind ≡ 1 → InversionCard s h
   unfolding limitsOf
   inversion e = record { some = some-n 1 e (lit< tt); few = few-n 1 e; words = words _ (words1 h e) }
 
-  projection : h .kind ≡ 2 → Projection s h
+  projection : h .kind ≡ 2 → ProjectionCard s h
   unfolding layout
   projection e =
       record {
@@ -183,11 +186,11 @@ module _ (s : List ℕ) (h : Header) (a : Passed s h) where
         words = words _ (words2 h e);
       }
 
-  process : h .kind ≡ 3 → Process s h
+  process : h .kind ≡ 3 → ProcessCard s h
   unfolding limitsOf
   process e = record { some = some-n 3 e (lit< tt); few = few-n 3 e; words = words _ (words3 h e) }
 
-  transfer : h .kind ≡ 4 → Transfer s h
+  transfer : h .kind ≡ 4 → TransferCard s h
   unfolding limitsOf layout
   transfer e =
       record {
@@ -197,7 +200,7 @@ module _ (s : List ℕ) (h : Header) (a : Passed s h) where
         words = words _ (words4 h e);
       }
 
-  fit : h .kind ≡ 5 → Fit s h
+  fit : h .kind ≡ 5 → FitCard s h
   fit e =
       let x : Stands (layout h) 1 controlRoles = controls-stand h e in
       record {
@@ -212,15 +215,47 @@ accepted s h e =
     record {
       header = a .word0;
       shaped = shaped s h (word0-kept s h a) (a .qubits) (size s h a);
-      fields = within h (word0-kept s h a);
+      fields = keeps h (word0-kept s h a);
       kind1 = inversion s h a;
       kind2 = projection s h a;
       kind3 = process s h a;
       kind4 = transfer s h a;
       kind5 = fit s h a;
-      kind6 = λ k. words s h a _ (words6 h k);
-      kind7 = λ k. words s h a _ (words7 h k);
+      kind6 = λ k. record { words = words s h a _ (words6 h k) };
+      kind7 = λ k. record { words = words s h a _ (words7 h k) };
       sequence = short s h a;
       coordinate = named s h a;
       rules = rules s h a;
     }
+
+-- ---- And back: a card of the shape whose words keep their rules is accepted
+module _ (s : List ℕ) (h : Header) (e : h ≡ header s) (a : Shaped s h) (keep : (p : ℕ) → p < wantedWords h → breaks s p (getD (layout h) p number) ≡ false) where
+  right-size : (p : ℕ) → sizeAtFault s p ≡ false
+  unfolding sizeAtFault layout
+  right-size p =
+      let w : wantedWords h ≤ 6601 = wanted-most h (a .limits) (a .word0) (a .qubits) in
+      rw (
+        ne-eqb (length s) 0 (λ z. omega (arith, a .length)),
+        le-ltb (mostWords * 8) (length s) (omega (arith, a .length)),
+        le-ltb 0 (length s % 8) (omega (arith, a .length)),
+      )
+
+  right-word : (p : ℕ) (b : Bool) → ltb p (wantedWords h) ≡ b → breaks s p (getD (layout h) p number) ≡ false
+  unfolding breaks
+  right-word p true q = keep p (ltb-true p (wantedWords h) q)
+  right-word p false q = ap (breaks s p) (List·getD-eq-default (layout h) number (ltb-false p (wantedWords h) q))
+
+  right : (p : ℕ) → atFault s p ≡ false
+  unfolding atFault wordAtFault faulty examined
+  right p =
+      let q : qubitsBreak (header s) ≡ false = ap qubitsBreak (sym e) ∙ a .qubits in
+      let w : breaks s p (getD (layout (header s)) p number) ≡ false =
+      ap (λ (k : Header). breaks s p (getD (layout k) p number)) (sym e) ∙ right-word p (ltb p (wantedWords h)) refl in
+      or-no (sizeAtFault s p) (wordAtFault s p) (right-size p) (rw (q, w))
+
+  pub reads : readOf s ≡ Accepted h
+  unfolding readOf lengthRead faultOf
+  reads =
+      let q : qubitsBreak (header s) ≡ false = ap qubitsBreak (sym e) ∙ a .qubits in
+      let n : eqb (wantedWords (header s)) (wordsIn s) ≡ true = eq-eqb _ _ (ap wantedWords (sym e) ∙ omega (arith, a .length)) in
+      rw (lowest-none (atFault s) (suc (wordsIn s)) (λ k l. right k), q, n) (ap Accepted (sym e))

@@ -1,5 +1,5 @@
 -- Laws of the walk along the layout. Assumes nothing.
-use Prim.Native.Nat.{ℕ, zero, suc, _+_, _*_, _≤_, _<_}
+use Prim.Native.Nat.{ℕ, zero, suc, _+_, _*_, _^_, _≤_, _<_}
 use mathlib.Core.Bool.{Bool, true, false, cond, _&&_, and-true, and-false}
 use mathlib.Core.Path.{_≡_, refl, sym, ap, _∙_}
 use mathlib.Core.List.{List, [], _∷_, _++_}
@@ -112,5 +112,5 @@ none-there s p [] h = refl
 none-there s p (r ∷ l) h = rw (← absent s p r h) (none-there s (p + 1) l (omega arith))
 
 -- i records of 5 + e words are few
-pub within : (i e n : ℕ) → i ≤ n → n < 65536 → e < 256 → i * (5 + e) ≤ 17104896
-within i e n h k l = mul-le-mul {n₁ = i} {m₁ = 5 + e} {n₂ = 65536} {m₂ = 261} (omega arith) (omega arith)
+pub few-words : (i e n : ℕ) → i ≤ n → n < 2 ^ 16 → e < 2 ^ 8 → i * (5 + e) ≤ 2 ^ 16 * 261
+few-words i e n h k l = mul-le-mul {n₁ = i} {m₁ = 5 + e} {n₂ = 2 ^ 16} {m₂ = 261} (omega arith) (omega arith)

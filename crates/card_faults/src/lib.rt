@@ -8,7 +8,7 @@ use numbers::word_at;
 ghost use mathlib.Core.Path.{_≡_};
 ghost use mathlib.Core.Bool.{cond};
 ghost use mathlib.Core.List.{[], _∷_};
-ghost use Prim.Native.Nat.{_<_};
+ghost use Prim.Native.Nat.{_^_, _<_};
 ghost use Rattle.card_layout.specs.Layout.{atMost, sequence, indices, coordinate, faulty, times, sequenceRoles, recordRoles};
 ghost use Rattle.card_faults.specs.Walk.{walk, firstOf, earlier};
 
@@ -91,7 +91,7 @@ fn coordinate_faulty(card: &[u8], p: usize) -> bool
 }
 
 fn sequence_fault(card: &[u8], p: usize) -> Fault
-    requires { ⌜ p < 2199023255552 ⌝ }
+    requires { ⌜ p < 2 ^ 41 ⌝ }
     ensures { λ r. ⌜ r ≡ walk (now (card .entry)) p sequenceRoles ⌝ }
 {
     let p1 = p + 1;
@@ -107,7 +107,7 @@ fn sequence_fault(card: &[u8], p: usize) -> Fault
 
 // The n records from place p on, each with e counts.
 pub fn records_fault(card: &[u8], p: usize, e: usize, n: usize) -> Fault
-    requires { ⌜ (p < 1099511627776) × (e < 256) × (n < 65536) ⌝ }
+    requires { ⌜ (p < 2 ^ 40) × (e < 2 ^ 8) × (n < 2 ^ 16) ⌝ }
     ensures { λ r. ⌜ r ≡ walk (now (card .entry)) p (times n (recordRoles e)) ⌝ }
 {
     let mut f = Fault::Nothing;
@@ -124,7 +124,7 @@ pub fn records_fault(card: &[u8], p: usize, e: usize, n: usize) -> Fault
 
 // The n coordinates from place p on.
 pub fn coordinates_fault(card: &[u8], p: usize, n: usize) -> Fault
-    requires { ⌜ (p < 1099511627776) × (n < 65536) ⌝ }
+    requires { ⌜ (p < 2 ^ 40) × (n < 2 ^ 16) ⌝ }
     ensures { λ r. ⌜ r ≡ walk (now (card .entry)) p (times n (coordinate ∷ [])) ⌝ }
 {
     let mut f = Fault::Nothing;

@@ -1,6 +1,6 @@
 -- The kinds, one by one, and what word 0's rule says of each field. Assumes nothing.
 use Prim.Native.Nat.{ℕ, zero, suc, _≤_, _<_, zero-le}
-use mathlib.Core.Bool.{false, _||_}
+use mathlib.Core.Bool.{false, _||_, _&&_}
 use mathlib.Core.Path.{_≡_, refl, sym}
 use mathlib.Core.Logic.{_⊎_, inl, inr, ⊎-elim}
 use native.Mathlib.Nat.{eq-or-lt-of-le}
@@ -10,7 +10,7 @@ use borrow.Author.Tests.{ne-eqb, eq-eqb, lt-ltb, ltb-false, eqb-false}
 use lib.Dec.{ltb, eqb, lit≤}
 use Rattle.booleans.proofs.Joined.{neither, second-not}
 use Rattle.card_layout.specs.declared.Header.{Header}
-use Rattle.card_layout.specs.Limits.{upTo, unknown, limitsOf, Within, Limited}
+use Rattle.card_layout.specs.Limits.{upTo, unknown, limitsOf, Keeps, Limited}
 use Rattle.card_layout.specs.Rules.{past, noMatrix, word0Breaks, qubitsBreak}
 
 -- a kind that is not there
@@ -32,7 +32,7 @@ by-kind P a b c d e f g (suc (suc (suc (suc (suc (suc (suc zero))))))) l m = g
 by-kind P a b c d e f g (suc (suc (suc (suc (suc (suc (suc (suc k)))))))) l m = absurd (omega arith)
 
 -- no field is past its limit
-pub not-past : (m h : Header) → past m h ≡ false → Within m h
+pub not-past : (m h : Header) → past m h ≡ false → Keeps m h
 unfolding past
 not-past m h e =
     let a = neither _ _ e in
@@ -77,8 +77,8 @@ module _ (h : Header) (rule : word0Breaks h ≡ false) where
   unfolding noMatrix
   some-matrix k = some (h .dimension) (second-not (eqb (h .kind) 2) (eqb (h .dimension) 0) (eq-eqb (h .kind) 2 k) (parts .1))
 
-  pub within : Within (limitsOf (h .kind)) h
-  within = not-past (limitsOf (h .kind)) h (parts .2)
+  pub keeps : Keeps (limitsOf (h .kind)) h
+  keeps = not-past (limitsOf (h .kind)) h (parts .2)
 
   -- what holds of each kind holds of the header's
   pub at-kind : (P : ℕ → Type 0) → P 1 → P 2 → P 3 → P 4 → P 5 → P 6 → P 7 → P (h .kind)
@@ -93,23 +93,23 @@ module _ (h : Header) (rule : word0Breaks h ≡ false) where
   -- only a kind with a model has effects or gates, only 5 and 7 have records, only 5 has coordinates
   pub effects-kind : 0 < h .effects → 5 ≤ h .kind
   unfolding limitsOf
-  effects-kind = models (λ m. m .effects) refl refl refl refl (within .effects)
+  effects-kind = models (λ m. m .effects) refl refl refl refl (keeps .effects)
 
   pub gates-kind : 0 < h .gates → 5 ≤ h .kind
   unfolding limitsOf
-  gates-kind = models (λ m. m .gates) refl refl refl refl (within .gates)
+  gates-kind = models (λ m. m .gates) refl refl refl refl (keeps .gates)
 
   pub records-kind : 0 < h .records → (h .kind ≡ 5) ⊎ (h .kind ≡ 7)
   unfolding limitsOf
   records-kind l =
       at-kind (λ k. 0 < limitsOf k .records → (k ≡ 5) ⊎ (k ≡ 7)) (λ z. absurd (omega arith)) (λ z. absurd (omega arith)) (λ z. absurd (omega arith))
-      (λ z. absurd (omega arith)) (λ z. inl refl) (λ z. absurd (omega arith)) (λ z. inr refl) (omega (arith, within .records))
+      (λ z. absurd (omega arith)) (λ z. inl refl) (λ z. absurd (omega arith)) (λ z. inr refl) (omega (arith, keeps .records))
 
   pub coordinates-kind : 0 < h .coordinates → h .kind ≡ 5
   unfolding limitsOf
   coordinates-kind l =
       at-kind (λ k. 0 < limitsOf k .coordinates → k ≡ 5) (λ z. absurd (omega arith)) (λ z. absurd (omega arith)) (λ z. absurd (omega arith))
-      (λ z. absurd (omega arith)) (λ z. refl) (λ z. absurd (omega arith)) (λ z. absurd (omega arith)) (omega (arith, within .coordinates))
+      (λ z. absurd (omega arith)) (λ z. refl) (λ z. absurd (omega arith)) (λ z. absurd (omega arith)) (omega (arith, keeps .coordinates))
 
   -- a model stands in kinds 5, 6 and 7
   pub model-kind : 5 ≤ h .kind → (h .kind ≡ 5) ⊎ ((h .kind ≡ 6) ⊎ (h .kind ≡ 7))
@@ -119,19 +119,21 @@ module _ (h : Header) (rule : word0Breaks h ≡ false) where
 
   -- n, in the kinds that have it
   module _ (few : qubitsBreak h ≡ false) where
-    pub some-qubits : 0 < limitsOf (h .kind) .qubits → 1 ≤ h .qubits
+    right-qubits : (m : ℕ) → limitsOf (h .kind) .qubits ≡ m → 0 < m → (eqb (h .qubits) 0 ≡ false) × (ltb m (h .qubits) ≡ false)
     unfolding qubitsBreak
-    some-qubits l =
-        let m = limitsOf (h .kind) .qubits in
-        some (h .qubits) (neither (eqb (h .qubits) 0) (ltb m (h .qubits)) (second-not (ltb 0 m) (eqb (h .qubits) 0 || ltb m (h .qubits)) (lt-ltb 0 m l) few) .0)
+    right-qubits m e l =
+        let f : ltb 0 m && (eqb (h .qubits) 0 || ltb m (h .qubits)) ≡ false = rw e at few in
+        neither (eqb (h .qubits) 0) (ltb m (h .qubits)) (second-not (ltb 0 m) (eqb (h .qubits) 0 || ltb m (h .qubits)) (lt-ltb 0 m l) f)
+
+    pub some-qubits : 0 < limitsOf (h .kind) .qubits → 1 ≤ h .qubits
+    some-qubits l = some (h .qubits) (right-qubits (limitsOf (h .kind) .qubits) refl l .0)
 
     pub few-qubits : h .qubits ≤ limitsOf (h .kind) .qubits
-    unfolding qubitsBreak
     few-qubits =
         let m = limitsOf (h .kind) .qubits in
         ⊎-elim
-        (λ (e : 0 ≡ m). let z : h .qubits ≡ 0 = within .qubits (sym e) in omega arith)
-        (λ (l : 0 < m). ltb-false m (h .qubits) (neither (eqb (h .qubits) 0) (ltb m (h .qubits)) (second-not (ltb 0 m) (eqb (h .qubits) 0 || ltb m (h .qubits)) (lt-ltb 0 m l) few) .1))
+        (λ (e : 0 ≡ m). let z : h .qubits ≡ 0 = keeps .qubits (sym e) in omega arith)
+        (λ (l : 0 < m). ltb-false m (h .qubits) (right-qubits m refl l .1))
         (eq-or-lt-of-le (zero-le {n = m}))
 
     pub limited : Limited h
@@ -139,8 +141,8 @@ module _ (h : Header) (rule : word0Breaks h ≡ false) where
     limited =
         let m = limitsOf (h .kind) in
         let top = upTo 0 3 16 16 8 200 64 in
-        let w : Within m h = within in
-        let b : Within top m = not-past top m (at-kind (λ k. past top (limitsOf k) ≡ false) refl refl refl refl refl refl refl) in
+        let w : Keeps m h = keeps in
+        let b : Keeps top m = not-past top m (at-kind (λ k. past top (limitsOf k) ≡ false) refl refl refl refl refl refl refl) in
         let q : m .qubits ≤ 3 = at-kind (λ k. limitsOf k .qubits ≤ 3) (lit≤ tt) (lit≤ tt) (lit≤ tt) (lit≤ tt) (lit≤ tt) (lit≤ tt) (lit≤ tt) in
         record {
           least = least-kind;

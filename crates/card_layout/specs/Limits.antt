@@ -1,4 +1,4 @@
--- The limits of document 01, each in one place.
+-- The limits of document 01, each in this one place.
 use Prim.Native.Nat.{ℕ, _*_, _≤_}
 use mathlib.Core.Path.{_≡_}
 use mathlib.Core.Bool.{Bool, cond, _||_}
@@ -16,7 +16,7 @@ upTo k n d e g r c = record { kind = k; qubits = n; dimension = d; effects = e; 
 -- the largest value of each field of word 0, by kind: zero where the kind lacks the field
 unfoldable pub limitsOf : ℕ → Header
 limitsOf k =
-    --                      n  d effects gates records coordinates
+    -- kind, then n, d, effects, gates, records, coordinates
     cond (eqb k 1) (upTo 1 3 0 0 0 0 0)
     (cond (eqb k 2) (upTo 2 0 16 0 0 0 0)
     (cond (eqb k 3) (upTo 3 2 0 0 0 0 0)
@@ -45,8 +45,8 @@ mostRotations m = 64 * (m * m)
 abbrev pub mostWords : ℕ
 mostWords = 8192
 
--- each field of h but n is within its limit in m, which is zero where the kind lacks the field; and n is zero where the kind has none
-pub record Within (m h : Header) : Type 0 where
+-- h keeps the limits m, but for n: zero where the kind lacks the field, and so n where the kind has none
+pub record Keeps (m h : Header) : Type 0 where
   pub qubits : m .qubits ≡ 0 → h .qubits ≡ 0
   pub dimension : h .dimension ≤ m .dimension
   pub effects : h .effects ≤ m .effects

@@ -9,11 +9,10 @@ use Rattle.card_layout.specs.declared.Header.{Header}
 use Rattle.card_layout.specs.Rules.{word0Breaks, qubitsBreak}
 use Rattle.card_layout.specs.Layout.{Role, number, layout}
 use Rattle.card_layout.proofs.EachKind.{limited}
-use Rattle.card_layout.proofs.Lengths.{length-each, length-record}
+use Rattle.card_layout.proofs.Lengths.{length-each, length-model, length-record}
 use Rattle.card_places.specs.Places.{wantedWords, modelAt, modelWords, stateAt, effectAt, gateNameAt, transformAt, recordAt, recordWords, indexAt, countAt, coordinateAt}
 use Rattle.card_places.specs.Shape.{Shaped}
 use Rattle.card_places.proofs.Standing.{Stands, stands-fits, controls-stand, model-stands, state-stands, effect-stands, gate-stands, transform-stands, record-stands, coordinate-stands}
-use Rattle.card_layout.proofs.Lengths.{length-model}
 
 pub shaped : (s : List ℕ) (h : Header) → word0Breaks h ≡ false → qubitsBreak h ≡ false → length s ≡ 8 * wantedWords h → Shaped s h
 shaped s h w q l = record { word0 = w; qubits = q; limits = limited h w q; length = l }

@@ -6,8 +6,8 @@ ghost use Rattle.card_layout.specs.Limits.{Limited};
 ghost use Rattle.card_places.specs.Places.{wantedWords, modelAt, modelWords, effectAt, gateNameAt, gateAt, afterModel, recordWords, recordAt, indexAt, countAt, coordinateAt};
 
 fn product(a: usize, b: usize) -> usize
-    requires { ⌜ (a ≤ 65536) × (b ≤ 65536) ⌝ }
-    ensures { λ r. ⌜ (r ≡ a * b) × (r ≤ 4294967296) ⌝ }
+    requires { ⌜ (a ≤ 2 ^ 16) × (b ≤ 2 ^ 16) ⌝ }
+    ensures { λ r. ⌜ (r ≡ a * b) × (r ≤ 2 ^ 32) ⌝ }
 {
     a * b
 }
@@ -50,7 +50,7 @@ pub fn model_at(h: Header) -> usize
 }
 
 pub fn effect_at(h: Header, k: usize) -> usize
-    requires { ⌜ Limited h × (k < 65536) ⌝ }
+    requires { ⌜ Limited h × (k < 2 ^ 16) ⌝ }
     ensures { λ r. ⌜ r ≡ effectAt h k ⌝ }
 {
     let d = h.dimension;
@@ -58,8 +58,8 @@ pub fn effect_at(h: Header, k: usize) -> usize
 }
 
 pub fn gate_name_at(h: Header, g: usize) -> usize
-    requires { ⌜ Limited h × (g < 65536) ⌝ }
-    ensures { λ r. ⌜ (r ≡ gateNameAt h g) × (r < 17179869184) ⌝ }
+    requires { ⌜ Limited h × (g < 2 ^ 16) ⌝ }
+    ensures { λ r. ⌜ (r ≡ gateNameAt h g) × (r < 2 ^ 34) ⌝ }
 {
     let d = h.dimension;
     let w = 1 + square(d);
@@ -67,7 +67,7 @@ pub fn gate_name_at(h: Header, g: usize) -> usize
 }
 
 pub fn gate_at(h: Header, g: usize) -> usize
-    requires { ⌜ Limited h × (g < 65536) ⌝ }
+    requires { ⌜ Limited h × (g < 2 ^ 16) ⌝ }
     ensures { λ r. ⌜ r ≡ gateAt h g ⌝ }
 {
     gate_name_at(h, g) + 1
@@ -89,29 +89,29 @@ pub fn record_words(h: Header) -> usize
 }
 
 pub fn record_at(h: Header, r: usize) -> usize
-    requires { ⌜ Limited h × (r < 65536) ⌝ }
-    ensures { λ p. ⌜ (p ≡ recordAt h r) × (p < 17179869184) ⌝ }
+    requires { ⌜ Limited h × (r < 2 ^ 16) ⌝ }
+    ensures { λ p. ⌜ (p ≡ recordAt h r) × (p < 2 ^ 34) ⌝ }
 {
     after_model(h) + product(r, record_words(h))
 }
 
 pub fn index_at(h: Header, r: usize, k: usize) -> usize
-    requires { ⌜ Limited h × (r < 65536) × (k < 65536) ⌝ }
+    requires { ⌜ Limited h × (r < 2 ^ 16) × (k < 2 ^ 16) ⌝ }
     ensures { λ p. ⌜ p ≡ indexAt h r k ⌝ }
 {
     record_at(h, r) + (1 + k / 16)
 }
 
 pub fn count_at(h: Header, r: usize, k: usize) -> usize
-    requires { ⌜ Limited h × (r < 65536) × (k < 65536) ⌝ }
+    requires { ⌜ Limited h × (r < 2 ^ 16) × (k < 2 ^ 16) ⌝ }
     ensures { λ p. ⌜ p ≡ countAt h r k ⌝ }
 {
     record_at(h, r) + (5 + k)
 }
 
 pub fn coordinate_at(h: Header, c: usize) -> usize
-    requires { ⌜ Limited h × (c < 65536) ⌝ }
-    ensures { λ p. ⌜ (p ≡ coordinateAt h c) × (p < 34359738368) ⌝ }
+    requires { ⌜ Limited h × (c < 2 ^ 16) ⌝ }
+    ensures { λ p. ⌜ (p ≡ coordinateAt h c) × (p < 2 ^ 35) ⌝ }
 {
     let n = h.records;
     record_at(h, n) + c

@@ -1,13 +1,13 @@
 -- What the C interface promises: the outcome of an entry point, with its answer in words. A slice of fewer than 5 answer words is refusal 16.
-use Prim.Native.Nat.{ℕ}
+use Prim.Native.Nat.{ℕ, min}
 use mathlib.Core.Path.{_≡_}
 use mathlib.Core.Bool.{Bool, cond}
-use mathlib.Core.List.{List, [], _∷_}
+use mathlib.Core.List.{List, [], _∷_, _++_}
 use lib.Dec.{leb}
-use lib.ListN.{length}
+use lib.ListN.{length, drop}
 use lib.Ieee.{Float}
-use Rattle.lists.specs.Build.{over}
-use Rattle.numbers.specs.Slice.{blank}
+use Rattle.lists.specs.Build.{build, over}
+use Rattle.numbers.specs.Slice.{at, blank}
 use Rattle.refusal.specs.Values.{codeOf, valueA, valueB}
 use Rattle.refusal.specs.declared.Refusal.{Refusal}
 use Rattle.refusal.specs.declared.Refusal.the-variants.{ShortBuffer}
@@ -59,3 +59,8 @@ pub record SheetExported (card result₀ result₁ : List ℕ) (work₀ work₁ 
 pub record ReadExported (card answer₀ answer₁ : List ℕ) (r : ℕ) : Type 0 where
   pub code : r ≡ cond (answerable answer₀) (readingCode (readOf card)) 16
   pub answer : answer₁ ≡ cond (answerable answer₀) (over (readingWords (readOf card)) answer₀) answer₀
+
+-- f of each number, as many as both slices have: the count is returned, and no other number of the second slice changes
+pub record Mapped (f : Float → Float) (xs out₀ out₁ : List Float) (r : ℕ) : Type 0 where
+  pub count : r ≡ min (length xs) (length out₀)
+  pub numbers : out₁ ≡ build r (λ i. f (at xs i)) ++ drop r out₀

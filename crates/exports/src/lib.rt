@@ -3,12 +3,15 @@ use card::Reading;
 use refusal::Refusal;
 use tomography::Answer;
 ghost use mathlib.Core.Path.{_≡_};
-ghost use mathlib.Core.List.{_∷_, []};
-ghost use Prim.Native.Nat.{_≤_};
-ghost use lib.ListN.{length};
-ghost use Rattle.lists.specs.Build.{over};
+ghost use mathlib.Core.List.{_∷_, [], _++_};
+ghost use Prim.Native.Nat.{_≤_, min};
+ghost use lib.ListN.{length, drop};
+ghost use Rattle.lists.specs.Build.{build, over};
+ghost use Rattle.numbers.specs.Slice.{at};
+ghost use Rattle.root.specs.Root.{sqrt};
+ghost use Rattle.logarithm.specs.Steps.{ln, lnBy, entriesOf};
 ghost use Rattle.refusal.specs.Values.{codeOf};
-ghost use Rattle.exports.specs.Exported.{refusalWords, answerWords, answerCode, readingWords, readingCode, SheetExported, ReadExported};
+ghost use Rattle.exports.specs.Exported.{refusalWords, answerWords, answerCode, readingWords, readingCode, SheetExported, ReadExported, Mapped};
 
 fn put(out: &mut [u64], a: u64, b: u64, c: u64, d: u64)
     requires { ⌜ 5 ≤ length (now out) ⌝ }
@@ -85,4 +88,58 @@ pub extern "C" fn mintshuttle_read(card: &[u8], answer: &mut [u64]) -> u64
     }
     let a = card::read(card);
     put_reading(a, answer)
+}
+
+fn shorter(a: usize, b: usize) -> usize
+    ensures { λ r. ⌜ (r ≡ min a b) × (r ≤ a) × (r ≤ b) ⌝ }
+{
+    if a < b {
+        return a;
+    }
+    b
+}
+
+fn roots(x: &[f64], n: usize, out: &mut [f64])
+    requires { ⌜ (n ≤ length (now x)) × (n ≤ length (now out)) ⌝ }
+    ensures { λ _. ⌜ now (out .exit) ≡ build n (λ i. sqrt (at (now (x .entry)) i)) ++ drop n (now (out .entry)) ⌝ }
+{
+    for i in 0..n {
+        out[i] = root::sqrt(x[i]);
+    }
+}
+
+fn logarithms<'a>(
+    quotients: &'a [u64; 257],
+    remainders: &'a [u64; 257],
+    x: &[f64],
+    n: usize,
+    out: &mut [f64],
+)
+    requires { ⌜ (n ≤ length (now x)) × (n ≤ length (now out)) ⌝ }
+    ensures { λ _. ⌜ now (out .exit) ≡ build n (λ i. lnBy (entriesOf (now (quotients .entry))) (entriesOf (now (remainders .entry))) (at (now (x .entry)) i)) ++ drop n (now (out .entry)) ⌝ }
+{
+    for i in 0..n {
+        out[i] = logarithm::ln_by(quotients, remainders, x[i]);
+    }
+}
+
+// The square root of each number.
+#[no_mangle]
+pub extern "C" fn mintshuttle_sqrt_all(x: &[f64], out: &mut [f64]) -> usize
+    ensures { λ r. ⌜ Mapped sqrt (now (x .entry)) (now (out .entry)) (now (out .exit)) r ⌝ }
+{
+    let n = shorter(x.len(), out.len());
+    roots(x, n, out);
+    n
+}
+
+// The natural logarithm of each number.
+#[no_mangle]
+pub extern "C" fn mintshuttle_ln_all(x: &[f64], out: &mut [f64]) -> usize
+    ensures { λ r. ⌜ Mapped ln (now (x .entry)) (now (out .entry)) (now (out .exit)) r ⌝ }
+{
+    let n = shorter(x.len(), out.len());
+    let t = logarithm::tables();
+    logarithms(&t.quotients, &t.remainders, x, n, out);
+    n
 }

@@ -20,7 +20,7 @@ use Rattle.lists.proofs.Parts.{entry-fits, row-of, column-of}
 use Rattle.numbers.specs.Number.{zeroF, oneF, _+ᶠ_, _*ᶠ_, _/ᶠ_, finite, Plain}
 use Rattle.numbers.specs.Slice.{at, allFinite}
 use Rattle.numbers.proofs.Leaves.{clash}
-use Rattle.numbers.proofs.Zeros.{zero-times, add-nothing, add-plain, finite-over}
+use Rattle.rounding.proofs.Zeros.{zero-times, add-nothing, add-plain, finite-over}
 use Rattle.pauli.specs.Exact.{Gaussian, none, stringEntry}
 use Rattle.pauli.specs.Entry.{filledColumn, filledPower, powerOfI, filledPlace, unitOf, withEntry, AllPlain}
 use Rattle.pauli.specs.Density.{partOf, stringPart, pinned, weight, densityPart, withString, densityOf, testedOf}

@@ -32,7 +32,9 @@ first-of-requires-3 : tie.Need-first-of-requires-3
 first-of-requires-3 c κs = search needs
 
 returns : tie.Need-returns
-returns c = cc (fault5 (c .before .before .before .before .before .before .before .before .before .before .args .card .now) (c .before .before .before .before .before .before .before .before .before .before .args .h) (c .before .before .before .before .before .before .before .before .before .before .pre .1))
+returns c =
+    let start = c .before .before .before .before .before .before .before .before .before .before in
+    cc (fault5 (start .args .card .now) (start .args .h) (start .pre .1))
 
 pub fit-fault-spec : {M : Type 1} → statement M
 fit-fault-spec =

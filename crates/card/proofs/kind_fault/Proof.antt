@@ -1,9 +1,4 @@
 -- `card::kind_fault` meets its contract. Assumes nothing.
-use Prim.Native.Nat.{_*_}
-use mathlib.Core.Path.{ap, _∙_}
-use mathlib.Core.List.{[], _∷_}
-use Rattle.card_layout.specs.Layout.{atMost, times, recordRoles}
-use Rattle.card_faults.specs.Walk.{walk}
 use Rattle.card.proofs.Walks.{fault2, fault4, fault7, faultless}
 use borrow.Author.Needs.{needs}
 use Rattle.card.proofs.kind_fault.Statement.{statement}
@@ -20,8 +15,8 @@ limit-fault-requires c κs = search needs
 
 returns : tie.Need-returns
 returns c =
-    let s = c .before .before .before .before .args .card .now in
-    c .limit-fault .ensures ∙ ap (λ m. walk s 2 (atMost (64 * m) ∷ [])) (c .before .square .ensures .0) ∙ fault2 s (c .before .before .before .before .args .h) (c .before .before .if1 .taken)
+    let start = c .before .before .before .before in
+    cc (fault2 (start .args .card .now) (start .args .h) (c .before .before .if1 .taken))
 
 four-to-requires : tie.Need-four-to-requires
 four-to-requires c κs = search needs
@@ -37,10 +32,8 @@ limit-fault-requires-2 c κs = search needs
 
 returns-2 : tie.Need-returns-2
 returns-2 c =
-    let s = c .before .before .before .before .before .before .args .card .now in
-    c .limit-fault2 .ensures
-    ∙ ap (λ m. walk s 2 (atMost (64 * m) ∷ [])) (c .before .square2 .ensures .0 ∙ ap (λ n. n * n) (c .before .before .four-to .ensures .0))
-    ∙ fault4 s (c .before .before .before .before .before .before .args .h) (c .before .before .before .if2 .taken)
+    let start = c .before .before .before .before .before .before in
+    cc (fault4 (start .args .card .now) (start .args .h) (c .before .before .before .if2 .taken))
 
 fit-fault-requires : tie.Need-fit-fault-requires
 fit-fault-requires c κs = search needs
@@ -56,12 +49,13 @@ records-fault-requires c κs = search needs
 
 returns-4 : tie.Need-returns-4
 returns-4 c =
-    let s = c .before .before .before .before .before .before .before .args .card .now in
-    let h = c .before .before .before .before .before .before .before .args .h in
-    c .records-fault .ensures ∙ ap (λ p. walk s p (times (h .records) (recordRoles (h .effects)))) (c .before .after-model .ensures .0) ∙ fault7 s h (c .before .before .if4 .taken)
+    let start = c .before .before .before .before .before .before .before in
+    cc (fault7 (start .args .card .now) (start .args .h) (c .before .before .if4 .taken))
 
 returns-5 : tie.Need-returns-5
-returns-5 c = faultless (c .before .before .before .before .before .args .card .now) (c .before .before .before .before .before .args .h) (c .before .before .before .if1 .left) (c .before .before .if2 .left) (c .before .if3 .left) (c .if4 .left)
+returns-5 c =
+    let start = c .before .before .before .before .before in
+    faultless (start .args .card .now) (start .args .h) (c .before .before .before .if1 .left) (c .before .before .if2 .left) (c .before .if3 .left) (c .if4 .left)
 
 pub kind-fault-spec : {M : Type 1} → statement M
 kind-fault-spec =

@@ -28,14 +28,21 @@ unfolding readOf header
 returns-2 c =
     let s = c .before .before .before .before .before .before .args .card .now in
     ap (λ f. afterFault f (lengthRead (header s) (wordsIn s)))
-    (sym (word0-fault s (search needs) (ap word0Breaks (sym (c .before .before .header-of .ensures ∙ ap headerOf (c .before .before .before .word-at .ensures))) ∙ sym (c .before .word0-breaks .ensures) ∙ c .if2 .taken)))
+    (sym
+    (word0-fault s (search needs)
+    (ap word0Breaks (sym (c .before .before .header-of .ensures ∙ ap headerOf (c .before .before .before .word-at .ensures)))
+    ∙ sym (c .before .word0-breaks .ensures)
+    ∙ c .if2 .taken)))
 
 size-fault-requires : tie.Need-size-fault-requires
 size-fault-requires c κs = search needs
 
 words-fault-requires : tie.Need-words-fault-requires
 unfolding header
-words-fault-requires c κs = (c .before .before .before .header-of .ensures ∙ ap headerOf (c .before .before .before .before .word-at .ensures), sym (c .before .before .word0-breaks .ensures) ∙ c .before .if2 .left)
+words-fault-requires c κs = (
+  c .before .before .before .header-of .ensures ∙ ap headerOf (c .before .before .before .before .word-at .ensures),
+  sym (c .before .before .word0-breaks .ensures) ∙ c .before .if2 .left,
+)
 
 earlier-requires : tie.Need-earlier-requires
 earlier-requires c κs = search needs

@@ -1,9 +1,7 @@
 -- `card::words_fault` meets its contract. Assumes nothing.
 use mathlib.Core.Path.{ap, sym, _∙_}
 use Rattle.card_layout.specs.Rules.{word0Breaks, qubitsBreak}
-use Rattle.card_layout.specs.Layout.{afterWord0}
 use Rattle.card_layout.proofs.EachKind.{limited}
-use Rattle.card_faults.specs.Walk.{walk}
 use Rattle.card.proofs.Walks.{short, long}
 use borrow.Author.Needs.{needs}
 use Rattle.card.proofs.words_fault.Statement.{statement}
@@ -18,15 +16,14 @@ returns c =
     short (c .before .before .before .args .card .now) (ap word0Breaks e ∙ c .before .before .before .pre .1) (ap qubitsBreak e ∙ sym (c .before .qubits-break .ensures) ∙ c .if1 .taken)
 
 kind-fault-requires : tie.Need-kind-fault-requires
-kind-fault-requires c κs = limited (c .before .before .before .args .h) (c .before .before .before .pre .1) (sym (c .before .qubits-break .ensures) ∙ c .if1 .left)
+kind-fault-requires c κs =
+    let start = c .before .before .before in
+    limited (start .args .h) (start .pre .1) (sym (c .before .qubits-break .ensures) ∙ c .if1 .left)
 
 returns-2 : tie.Need-returns-2
 returns-2 c =
-    let s = c .before .before .before .before .args .card .now in
-    let e = sym (c .before .before .before .before .pre .0) in
-    c .kind-fault .ensures
-    ∙ ap (λ h. walk s 1 (afterWord0 h)) (c .before .before .before .before .pre .0)
-    ∙ long s (ap word0Breaks e ∙ c .before .before .before .before .pre .1) (ap qubitsBreak e ∙ sym (c .before .before .qubits-break .ensures) ∙ c .before .if1 .left)
+    let start = c .before .before .before .before in
+    let e = sym (start .pre .0) in cc (long (start .args .card .now) (ap word0Breaks e ∙ start .pre .1) (ap qubitsBreak e ∙ sym (c .before .before .qubits-break .ensures) ∙ c .before .if1 .left))
 
 pub words-fault-spec : {M : Type 1} → statement M
 words-fault-spec = tie.close (tie.spec qubits-break-requires returns kind-fault-requires returns-2)

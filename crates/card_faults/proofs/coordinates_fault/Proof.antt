@@ -42,13 +42,20 @@ loop-less c = search needs
 
 loop-again : tie.Need-loop-again Inv-loop μ-loop
 unfolding walk
-loop-again c = let t = c .before .before .before .before in let a = t .before .before .args in (
-  search needs,
-  c .first-of .ensures ∙ times-more (a .card .now) (a .p) (t .loop .i) (coordinate ∷ []) (a .p + t .loop .i) (t .loop .inv .1) (omega arith) (c .before .fault-if .ensures ∙ ap (λ b. cond b (At (a .p + t .loop .i)) Nothing) (c .before .before .coordinate-faulty .ensures)),
-)
+loop-again c =
+    let t = c .before .before .before .before in
+    let a = t .before .before .args in
+    let q = a .p + t .loop .i in (
+      search needs,
+      c .first-of .ensures
+          ∙ times-more (a .card .now) (a .p) (t .loop .i) (coordinate ∷ []) q (t .loop .inv .1) (omega arith)
+          (c .before .fault-if .ensures ∙ ap (λ b. cond b (At q) Nothing) (c .before .before .coordinate-faulty .ensures)),
+    )
 
 returns : tie.Need-returns Inv-loop μ-loop
-returns c = let t = c .before in t .loop .inv .1 ∙ ap (λ n. walk (t .before .before .args .card .now) (t .before .before .args .p) (times n (coordinate ∷ []))) (le-antisymm (omega arith) (omega arith))
+returns c =
+    let a = c .before .before .before .args in
+    c .before .loop .inv .1 ∙ ap (λ n. walk (a .card .now) (a .p) (times n (coordinate ∷ []))) (le-antisymm (omega arith) (omega arith))
 
 pub coordinates-fault-spec : {M : Type 1} → statement M
 coordinates-fault-spec =

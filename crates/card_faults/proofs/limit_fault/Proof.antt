@@ -19,7 +19,12 @@ fault-if-requires c κs = search needs
 
 returns : tie.Need-returns
 unfolding walk breaks
-returns c = let a = c .before .before .before .before .args in c .fault-if .ensures ∙ ap (λ b. cond b (At (a .p)) Nothing) (there (a .card .now) (a .p) (atMost (a .limit)) {b = ltb (a .limit) (c .before .word-at .result)} (search needs) (ap (ltb (a .limit)) (c .before .word-at .ensures)))
+returns c =
+    let a = c .before .before .before .before .args in
+    let word = c .before .word-at in
+    c .fault-if .ensures
+    ∙ ap (λ b. cond b (At (a .p)) Nothing)
+    (there (a .card .now) (a .p) (atMost (a .limit)) {b = ltb (a .limit) (word .result)} (search needs) (ap (ltb (a .limit)) (word .ensures)))
 
 returns-2 : tie.Need-returns-2
 unfolding walk

@@ -6,7 +6,7 @@ use native.Mathlib.Nat.{le-antisymm}
 use Rattle.card_layout.specs.Layout.{times, recordRoles}
 use Rattle.card_layout.proofs.Lengths.{length-record}
 use Rattle.card_faults.specs.Walk.{walk}
-use Rattle.card_faults.proofs.Walking.{times-none, times-more, walk-record, within}
+use Rattle.card_faults.proofs.Walking.{times-none, times-more, walk-record, few-words}
 use borrow.Author.Needs.{needs}
 use Rattle.card_faults.proofs.records_fault.Statement.{statement}
 use Rattle.card_faults.proofs.records_fault.Tie as tie
@@ -21,7 +21,9 @@ loop-holds : tie.Need-loop-holds Inv-loop μ-loop
 loop-holds c = (search needs, search needs, sym (times-none _ _ _))
 
 sequence-fault-requires : tie.Need-sequence-fault-requires Inv-loop μ-loop
-sequence-fault-requires c κs = let l = c .before .loop in omega (arith, within (l .i) (c .before .before .before .args .e) (c .before .before .before .args .n) (search needs) (search needs) (search needs))
+sequence-fault-requires c κs =
+    let start = c .before .before .before in
+    let l = c .before .loop in omega (arith, few-words (l .i) (start .args .e) (start .args .n) (search needs) (search needs) (search needs))
 
 first-of-requires : tie.Need-first-of-requires Inv-loop μ-loop
 first-of-requires c κs = search needs
@@ -30,7 +32,7 @@ add-q : tie.Need-add-q Inv-loop μ-loop
 add-q c = search needs
 
 add-q-2 : tie.Need-add-q-2 Inv-loop μ-loop
-add-q-2 c = let t = c .before .before .before in omega (arith, within (t .loop .i) (t .before .before .args .e) (t .before .before .args .n) (search needs) (search needs) (search needs))
+add-q-2 c = let t = c .before .before .before in omega (arith, few-words (t .loop .i) (t .before .before .args .e) (t .before .before .args .n) (search needs) (search needs) (search needs))
 
 add-i : tie.Need-add-i Inv-loop μ-loop
 add-i c = search needs
@@ -39,14 +41,20 @@ loop-less : tie.Need-loop-less Inv-loop μ-loop
 loop-less c = search needs
 
 loop-again : tie.Need-loop-again Inv-loop μ-loop
-loop-again c = let t = c .before .before .before in let a = t .before .before .args in (
-  search needs,
-  omega arith,
-  c .first-of .ensures ∙ times-more (a .card .now) (a .p) (t .loop .i) (recordRoles (a .e)) (t .loop .q) (t .loop .inv .2) (omega (arith, ap (λ n. t .loop .i * n) (length-record (a .e)))) (c .before .sequence-fault .ensures ∙ sym (walk-record _ _ _)),
-)
+loop-again c =
+    let t = c .before .before .before in
+    let a = t .before .before .args in (
+      search needs,
+      omega arith,
+      c .first-of .ensures
+          ∙ times-more (a .card .now) (a .p) (t .loop .i) (recordRoles (a .e)) (t .loop .q) (t .loop .inv .2)
+          (omega (arith, ap (λ n. t .loop .i * n) (length-record (a .e)))) (c .before .sequence-fault .ensures ∙ sym (walk-record _ _ _)),
+    )
 
 returns : tie.Need-returns Inv-loop μ-loop
-returns c = let t = c .before in t .loop .inv .2 ∙ ap (λ n. walk (t .before .before .args .card .now) (t .before .before .args .p) (times n (recordRoles (t .before .before .args .e)))) (le-antisymm (omega arith) (omega arith))
+returns c =
+    let a = c .before .before .before .args in
+    c .before .loop .inv .2 ∙ ap (λ n. walk (a .card .now) (a .p) (times n (recordRoles (a .e)))) (le-antisymm (omega arith) (omega arith))
 
 pub records-fault-spec : {M : Type 1} → statement M
 records-fault-spec =

@@ -12,7 +12,9 @@ nonzero-requires : tie.Need-nonzero-requires
 nonzero-requires c κs = search needs
 
 returns : tie.Need-returns
-returns c = c .nonzero .ensures ∙ indices-none (c .before .before .before .args .len) (c .before .before .before .args .j) (c .before .before .before .args .w) _ (search needs) (c .before .before .used-in .ensures) (c .before .if1 .taken)
+returns c =
+    let start = c .before .before .before in
+    c .nonzero .ensures ∙ indices-none (start .args .len) (start .args .j) (start .args .w) _ (search needs) (c .before .before .used-in .ensures) (c .before .if1 .taken)
 
 sub-unused : tie.Need-sub-unused
 sub-unused c = search needs
@@ -30,7 +32,9 @@ nonzero-requires-2 : tie.Need-nonzero-requires-2
 nonzero-requires-2 c κs = search needs
 
 returns-2 : tie.Need-returns-2
-returns-2 c = c .nonzero2 .ensures ∙ indices-some (c .before .before .before .args .len) (c .before .before .before .args .j) (c .before .before .before .args .w) (c .before .before .used-in .result) _ (c .before .before .used-in .ensures) (c .before .if1 .left) refl
+returns-2 c =
+    let start = c .before .before .before in
+    c .nonzero2 .ensures ∙ indices-some (start .args .len) (start .args .j) (start .args .w) (c .before .before .used-in .result) _ (c .before .before .used-in .ensures) (c .before .if1 .left) refl
 
 pub indices-break-spec : {M : Type 1} → statement M
 indices-break-spec =

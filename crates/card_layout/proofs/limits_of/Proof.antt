@@ -59,7 +59,15 @@ up-to-requires-8 : tie.Need-up-to-requires-8
 up-to-requires-8 c κs = search needs
 
 returns-8 : tie.Need-returns-8
-returns-8 c = c .up-to8 .ensures ∙ limits-none _ (c .before .before .before .before .before .before .before .if1 .left) (c .before .before .before .before .before .before .if2 .left) (c .before .before .before .before .before .if3 .left) (c .before .before .before .before .if4 .left) (c .before .before .before .if5 .left) (c .before .before .if6 .left) (c .before .if7 .left)
+returns-8 c =
+    c .up-to8 .ensures
+    ∙ limits-none _ (c .before .before .before .before .before .before .before .if1 .left)
+    (c .before .before .before .before .before .before .if2 .left)
+    (c .before .before .before .before .before .if3 .left)
+    (c .before .before .before .before .if4 .left)
+    (c .before .before .before .if5 .left)
+    (c .before .before .if6 .left)
+    (c .before .if7 .left)
 
 pub limits-of-spec : {M : Type 1} → statement M
 limits-of-spec =

@@ -10,7 +10,9 @@ coordinate-at-requires : tie.Need-coordinate-at-requires
 coordinate-at-requires c κs = search needs
 
 word-at-requires : tie.Need-word-at-requires
-word-at-requires c κs = omega (arith, coordinate-in (c .before .before .args .card .now) (c .before .before .args .h) (c .before .before .pre .0) (c .before .before .args .c) (c .before .before .pre .1))
+word-at-requires c κs =
+    let start = c .before .before in
+    omega (arith, coordinate-in (start .args .card .now) (start .args .h) (start .pre .0) (start .args .c) (start .pre .1))
 
 coordinate-of-requires : tie.Need-coordinate-of-requires
 coordinate-of-requires c κs = search needs

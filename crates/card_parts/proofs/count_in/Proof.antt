@@ -10,7 +10,9 @@ count-at-requires : tie.Need-count-at-requires
 count-at-requires c κs = search needs
 
 word-at-requires : tie.Need-word-at-requires
-word-at-requires c κs = omega (arith, count-in (c .before .before .args .card .now) (c .before .before .args .h) (c .before .before .pre .0) (c .before .before .args .r) (c .before .before .args .k) (c .before .before .pre .1) (c .before .before .pre .2))
+word-at-requires c κs =
+    let start = c .before .before in
+    omega (arith, count-in (start .args .card .now) (start .args .h) (start .pre .0) (start .args .r) (start .args .k) (start .pre .1) (start .pre .2))
 
 returns : tie.Need-returns
 unfolding countIn

@@ -11,13 +11,17 @@ index-at-requires : tie.Need-index-at-requires
 index-at-requires c κs = search needs
 
 word-at-requires : tie.Need-word-at-requires
-word-at-requires c κs = omega (arith, index-in (c .before .before .args .card .now) (c .before .before .args .h) (c .before .before .pre .0) (c .before .before .args .r) (c .before .before .args .k) (c .before .before .pre .1 .there) (omega arith))
+word-at-requires c κs =
+    let start = c .before .before in
+    omega (arith, index-in (start .args .card .now) (start .args .h) (start .pre .0) (start .args .r) (start .args .k) (start .pre .1 .there) (omega arith))
 
 index-of-requires : tie.Need-index-of-requires
 index-of-requires c κs = search needs
 
 returns : tie.Need-returns
-returns c = ((cc) ∙ sym (gate-sequence (c .before .before .before .before .args .card .now) (c .before .before .before .before .args .h) (c .before .before .before .before .args .r) (c .before .before .before .before .args .k) (c .before .before .before .before .pre .2)), omega arith)
+returns c =
+    let start = c .before .before .before .before in
+    ((cc) ∙ sym (gate-sequence (start .args .card .now) (start .args .h) (start .args .r) (start .args .k) (start .pre .2)), omega arith)
 
 pub gate-in-spec : {M : Type 1} → statement M
 gate-in-spec = tie.close (tie.spec index-at-requires word-at-requires index-of-requires returns)

@@ -10,7 +10,9 @@ effect-at-requires : tie.Need-effect-at-requires
 effect-at-requires c κs = search needs
 
 load-requires : tie.Need-load-requires
-load-requires c κs = omega (arith, effect-in (c .before .before .before .before .args .card .now) (c .before .before .before .before .args .h) (c .before .before .before .before .pre .0) (c .before .before .before .before .args .k) (c .before .before .before .before .pre .1))
+load-requires c κs =
+    let start = c .before .before .before .before in
+    omega (arith, effect-in (start .args .card .now) (start .args .h) (start .pre .0) (start .args .k) (start .pre .1))
 
 same-length : tie.Need-same-length
 same-length c = search needs

@@ -10,7 +10,9 @@ model-at-requires : tie.Need-model-at-requires
 model-at-requires c κs = search needs
 
 load-requires : tie.Need-load-requires
-load-requires c κs = omega (arith, state-in (c .before .before .before .before .args .card .now) (c .before .before .before .before .args .h) (c .before .before .before .before .pre .0) (c .before .before .before .before .pre .1))
+load-requires c κs =
+    let start = c .before .before .before .before in
+    omega (arith, state-in (start .args .card .now) (start .args .h) (start .pre .0) (start .pre .1))
 
 same-length : tie.Need-same-length
 same-length c = search needs

@@ -10,7 +10,9 @@ gate-name-at-requires : tie.Need-gate-name-at-requires
 gate-name-at-requires c κs = search needs
 
 word-at-requires : tie.Need-word-at-requires
-word-at-requires c κs = omega (arith, gate-in (c .before .before .args .card .now) (c .before .before .args .h) (c .before .before .pre .0) (c .before .before .args .g) (c .before .before .pre .1))
+word-at-requires c κs =
+    let start = c .before .before in
+    omega (arith, gate-in (start .args .card .now) (start .args .h) (start .pre .0) (start .args .g) (start .pre .1))
 
 returns : tie.Need-returns
 unfolding nameOf

@@ -11,13 +11,17 @@ record-at-requires : tie.Need-record-at-requires
 record-at-requires c κs = search needs
 
 word-at-requires : tie.Need-word-at-requires
-word-at-requires c κs = omega (arith, record-in (c .before .before .args .card .now) (c .before .before .args .h) (c .before .before .pre .0) (c .before .before .args .r) (c .before .before .pre .1))
+word-at-requires c κs =
+    let start = c .before .before in
+    omega (arith, record-in (start .args .card .now) (start .args .h) (start .pre .0) (start .args .r) (start .pre .1))
 
 length-of-requires : tie.Need-length-of-requires
 length-of-requires c κs = search needs
 
 returns : tie.Need-returns
-returns c = (cc) ∙ sym (length-sequence (c .before .before .before .before .args .card .now) (c .before .before .before .before .args .h) (c .before .before .before .before .args .r))
+returns c =
+    let start = c .before .before .before .before in
+    (cc) ∙ sym (length-sequence (start .args .card .now) (start .args .h) (start .args .r))
 
 pub sequence-length-spec : {M : Type 1} → statement M
 sequence-length-spec =

@@ -41,7 +41,9 @@ add-result-3 : tie.Need-add-result-3
 add-result-3 c = search needs
 
 returns-3 : tie.Need-returns-3
-returns-3 c = ap (λ n. 2 + 2 * n) (c .square2 .ensures .0 ∙ ap (λ n. n * n) (c .before .four-to2 .ensures .0)) ∙ sym (words3 (c .before .before .before .before .before .args .h) (c .before .before .if3 .taken))
+returns-3 c =
+    ap (λ n. 2 + 2 * n) (c .square2 .ensures .0 ∙ ap (λ n. n * n) (c .before .four-to2 .ensures .0))
+    ∙ sym (words3 (c .before .before .before .before .before .args .h) (c .before .before .if3 .taken))
 
 four-to-requires-3 : tie.Need-four-to-requires-3
 four-to-requires-3 c κs = search needs
@@ -53,7 +55,9 @@ add-result-4 : tie.Need-add-result-4
 add-result-4 c = search needs
 
 returns-4 : tie.Need-returns-4
-returns-4 c = ap (λ n. 3 + n) (c .square3 .ensures .0 ∙ ap (λ n. n * n) (c .before .four-to3 .ensures .0)) ∙ sym (words4 (c .before .before .before .before .before .before .args .h) (c .before .before .if4 .taken))
+returns-4 c =
+    ap (λ n. 3 + n) (c .square3 .ensures .0 ∙ ap (λ n. n * n) (c .before .four-to3 .ensures .0))
+    ∙ sym (words4 (c .before .before .before .before .before .before .args .h) (c .before .before .if4 .taken))
 
 coordinate-at-requires : tie.Need-coordinate-at-requires
 coordinate-at-requires c κs = search needs
@@ -71,7 +75,11 @@ add-result-5 : tie.Need-add-result-5
 add-result-5 c = search needs
 
 returns-6 : tie.Need-returns-6
-returns-6 c = ap (λ n. c .before .after-model .result + n) (c .square4 .ensures .0) ∙ ap (λ n. n + c .before .before .before .before .before .before .before .before .args .h .dimension * c .before .before .before .before .before .before .before .before .args .h .dimension) (c .before .after-model .ensures .0) ∙ sym (words6 (c .before .before .before .before .before .before .before .before .args .h) (c .before .before .if6 .taken))
+returns-6 c =
+    let h = c .before .before .before .before .before .before .before .before .args .h in
+    ap (λ n. c .before .after-model .result + n) (c .square4 .ensures .0)
+    ∙ ap (λ n. n + h .dimension * h .dimension) (c .before .after-model .ensures .0)
+    ∙ sym (words6 h (c .before .before .if6 .taken))
 
 record-at-requires : tie.Need-record-at-requires
 record-at-requires c κs = search needs

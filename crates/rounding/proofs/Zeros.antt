@@ -15,9 +15,11 @@ use lib.Ieee.Fits.{two, up-pos, down-pos, round-fits, round-is, core}
 use lib.Ieee.Nearest.{nearest-ge}
 use lib.Ieee.Order.{round-mono}
 use borrow.Author.Tests.{lt-ltb, le-ltb, ltb-true, ltb-false}
 use Rattle.numbers.specs.Number.{finite, Plain}
 use Rattle.numbers.proofs.Leaves.{clash, zero-exponent}
-use Rattle.numbers.proofs.Values.{value-unique, round-self, unitsOf, Units}
+use Rattle.rounding.proofs.Unique.{value-unique, round-self}
+use Rattle.rounding.specs.Units.{U, unitsOf}
+use Rattle.rounding.proofs.Units.{counted}
 
 -- zero, rounded
 pub round-zero : (f : Format) (s : Bool) (c : ℕ) → 0 < c → round f s 0 c ≡ fin s 0 (pos 0)
@@ -152,17 +154,14 @@ sum-plain f true false a b c α β p u v h = go (ltb a b) (ltb b a) (λ e. gap a
     go false true g = round-plain f true (a - b) c p (inr (g refl))
     go false false g = round-plain f false (a - b) c p (inl refl)
 
-some : (s : Bool) (m : ℕ) (e : ℤ) (u : Units binary64 m e) → Plain (fin s m e) → (s ≡ false) ⊎ (0 < u .count)
-some false m e u p = inl refl
-some true zero e u p = absurd p
-some true (suc m) e u p = inr (go (u .count) (u .is))
-  where
-    go : (k : ℕ) → suc m * up e * 2 ^ low binary64 ≡ k * down e → 0 < k
-    go zero h = absurd (lt-irrefl 0 (subst (λ (z : ℕ). 0 < z) (h ∙ zero-mul (down e)) (mul-pos (mul-pos (zero-lt-suc m) (up-pos e)) (pow-pos (low binary64)))))
-    go (suc k) h = zero-lt-suc k
+some : (s : Bool) (m : ℕ) (e : ℤ) (k : ℕ) → m * up e * U ≡ k * down e → Plain (fin s m e) → (s ≡ false) ⊎ (0 < k)
+some false m e k h p = inl refl
+some true zero e k h p = absurd p
+some true (suc m) e zero h p = absurd (lt-irrefl 0 (subst (λ (z : ℕ). 0 < z) (h ∙ zero-mul (down e)) (mul-pos (mul-pos (zero-lt-suc m) (up-pos e)) (pow-pos 1074))))
+some true (suc m) e (suc k) h p = inr (zero-lt-suc k)
 
 pub add-plain : (x y : Float) → T (fits binary64 x) → T (fits binary64 y) → Plain x → Plain (add binary64 x y)
-unfolding add
+unfolding add finite
 add-plain nan y hx hy p = tt
 add-plain (inf s) nan hx hy p = tt
 add-plain (inf true) (inf true) hx hy p = tt
@@ -173,15 +172,16 @@ add-plain (inf s) (fin t n d) hx hy p = tt
 add-plain (fin s m e) nan hx hy p = tt
 add-plain (fin s m e) (inf t) hx hy p = tt
 add-plain (fin s m e) (fin t n d) hx hy p =
-    let x = unitsOf binary64 s m e hx in
-    let y = unitsOf binary64 t n d hy in
-    sum-plain binary64 s t (m * up e * down d) (n * up d * down e) (down e * down d) (x .count) (y .count) (mul-pos (down-pos e) (down-pos d))
-    (shared (m * up e) (down e) (down d) (x .count) (x .is))
-    (shared (n * up d) (down d) (down e) (y .count) (y .is) ∙ ap (λ (k : ℕ). y .count * k) (mul-comm (down d) (down e)))
-    (some s m e x p)
+    let x = counted (fin s m e) hx refl .value .1 in
+    let y = counted (fin t n d) hy refl .value .1 in
+    let k = unitsOf (fin t n d) in
+    sum-plain binary64 s t (m * up e * down d) (n * up d * down e) (down e * down d) (unitsOf (fin s m e)) k (mul-pos (down-pos e) (down-pos d))
+    (shared (m * up e) (down e) (down d) (unitsOf (fin s m e)) x)
+    (shared (n * up d) (down d) (down e) k y ∙ ap (λ (z : ℕ). k * z) (mul-comm (down d) (down e)))
+    (some s m e (unitsOf (fin s m e)) x p)
   where
-    shared : (x d e α : ℕ) → x * 2 ^ low binary64 ≡ α * d → x * e * 2 ^ low binary64 ≡ α * (d * e)
-    shared x d e α h = mul-right-comm x e (2 ^ low binary64) ∙ ap (λ (k : ℕ). k * e) h ∙ mul-assoc α d e
+    shared : (x d e k : ℕ) → x * U ≡ k * d → x * e * U ≡ k * (d * e)
+    shared x d e k h = mul-right-comm x e U ∙ ap (λ (z : ℕ). z * e) h ∙ mul-assoc k d e
 
 -- ---- a finite number over a power of two is finite
 

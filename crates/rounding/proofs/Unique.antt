@@ -12,6 +12,7 @@ use lib.Ieee.Bits.{ofBits-toBits, is-true}
 use lib.Ieee.Digits.{size-lt, size-reaches, odd-val, back}
 use lib.Ieee.Exact.{HasValue, round-exact, odd-sign}
 use lib.Ieee.Fits.{and-l, and-r, up-pos, down-pos, round-fits, round-is, core, kept-lt}
+use Rattle.rounding.proofs.Units.{pow-le}
 use lib.Ieee.Nearest.{div-same, nearest-ge}
 
 -- x / dx and y / dy are both a / c
@@ -75,10 +76,6 @@ module _ (f : Format) (s : Bool) (m : ℕ) (e : ℤ) (h : T (fits f (fin s (suc 
       ltb→lt (suc m * up e) (2 ^ suc (emax f) * down e)
       (and-r (eqb (suc m % 2) 1 && ltb (suc m) (2 ^ prec f) && leb (down e) (2 ^ low f)) (ltb (suc m * up e) (2 ^ suc (emax f) * down e)) h)
 
--- powers of two in the order of their exponents
-exponents : (i j : ℕ) → 2 ^ i ≤ 2 ^ j → i ≤ j
-exponents i j h = le-of-suc-le-suc (lt-of-not-le (λ (l : j < i). lt-irrefl (2 ^ j) (lt-of-lt-of-le (pow-lt l) h)))
-
 whole : (f : Format) (s : Bool) (m : ℕ) (e : ℤ) → T (fits f (fin s (suc m) e)) → Whole f (suc m) e
 whole f s m (pos k) h =
     let q : suc m * 2 ^ k * 2 ^ low f ≡ suc m * 2 ^ (k + low f) = mul-assoc (suc m) (2 ^ k) (2 ^ low f) ∙ ap (λ (z : ℕ). suc m * z) (sym (pow-add 2 k (low f))) in
@@ -94,7 +91,7 @@ whole f s m (pos k) h =
     top-is : (l a : ℕ) → 2 ^ a * 2 ^ l ≡ 2 ^ (l + a)
     top-is l a = mul-comm (2 ^ a) (2 ^ l) ∙ sym (pow-add 2 l a)
 whole f s m (negsuc k) h =
-    let l : suc k ≤ low f = exponents (suc k) (low f) (fit-low f s m (negsuc k) h) in
+    let l : suc k ≤ low f = pow-le (suc k) (low f) (fit-low f s m (negsuc k) h) in
     let q : 2 ^ (low f - suc k) * 2 ^ suc k ≡ 2 ^ low f = sym (pow-add 2 (low f - suc k) (suc k)) ∙ ap (λ (z : ℕ). 2 ^ z) (back (low f) (suc k) l) in
     record {
       power = low f - suc k;
@@ -106,15 +103,6 @@ whole f s m (negsuc k) h =
   where
     reach : (a b c : ℕ) → c * b ≡ 2 ^ low f → a * b * c ≡ 2 ^ low f * a
     reach a b c q = mul-assoc a b c ∙ ap (λ (z : ℕ). a * z) (mul-comm b c ∙ q) ∙ mul-comm a (2 ^ low f)
-
--- a number that fits is a whole number of the format's smallest values
-pub record Units (f : Format) (m : ℕ) (e : ℤ) : Type 0 where
-  pub count : ℕ
-  pub is : m * up e * 2 ^ low f ≡ count * down e
-
-pub unitsOf : (f : Format) (s : Bool) (m : ℕ) (e : ℤ) → T (fits f (fin s m e)) → Units f m e
-unitsOf f s zero e h = record { count = 0; is = ap (λ (z : ℕ). z * 2 ^ low f) (zero-mul (up e)) ∙ zero-mul (2 ^ low f) ∙ sym (zero-mul (down e)) }
-unitsOf f s (suc m) e h = let w = whole f s m e h in record { count = suc m * 2 ^ w .power; is = w .is }
 
 -- x / d is a / c, and so many units of 1 / l
 crossed : (x d a c l w : ℕ) → 0 < d → x * l ≡ w * d → x * c ≡ a * d → a * l ≡ w * c

@@ -1,0 +1,1 @@
+// No code: worked readings of cards, as rows of one list.

@@ -1,0 +1,68 @@
+-- `exports::roots` meets its contract. Assumes nothing.
+use Prim.Native.Nat.{_≤_, _-_}
+use mathlib.Core.Path.{_≡_}
+use native.Mathlib.Omega.{arith}
+use lib.ListN.{length}
+use Rattle.lists.proofs.Filling.{Filled, fill-none, fill-more, fill-end}
+use Rattle.numbers.specs.Slice.{at}
+use Rattle.root.specs.Root.{sqrt}
+use borrow.Author.Needs.{needs}
+use Rattle.exports.proofs.roots.Statement.{statement}
+use Rattle.exports.proofs.roots.Tie as tie
+
+abbrev Inv-loop : tie.InvT-loop
+Inv-loop x n out₀ i₀ out i = (i ≤ n) × (length out ≡ length out₀) × Filled (λ k. sqrt (at x k)) out₀ i out
+
+abbrev μ-loop : tie.MeasureT-loop
+μ-loop x n out₀ i₀ out i = n - i
+
+loop-holds : tie.Need-loop-holds Inv-loop μ-loop
+loop-holds c = (search needs, search needs, fill-none _ _)
+
+mul-sqrt : tie.Need-mul-sqrt Inv-loop μ-loop
+mul-sqrt c = search needs
+
+shared-slice-read-sqrt : tie.Need-shared-slice-read-sqrt Inv-loop μ-loop
+shared-slice-read-sqrt c = search needs
+
+sqrt-requires : tie.Need-sqrt-requires Inv-loop μ-loop
+sqrt-requires c κs = search needs
+
+mul-out : tie.Need-mul-out Inv-loop μ-loop
+mul-out c = search needs
+
+slice-write-out : tie.Need-slice-write-out Inv-loop μ-loop
+slice-write-out c = search needs
+
+add-i : tie.Need-add-i Inv-loop μ-loop
+add-i c = search needs
+
+loop-less : tie.Need-loop-less Inv-loop μ-loop
+loop-less c = search needs
+
+loop-again : tie.Need-loop-again Inv-loop μ-loop
+loop-again c = (search needs, search needs, fill-more _ _ _ _ _ (search needs) (c .before .before .before .loop .inv .2) (c .sqrt .ensures))
+
+same-length : tie.Need-same-length Inv-loop μ-loop
+same-length c = search needs
+
+returns : tie.Need-returns Inv-loop μ-loop
+returns c = fill-end _ _ _ _ _ (omega arith) (c .before .loop .inv .2)
+
+pub roots-spec : {M : Type 1} → statement M
+roots-spec =
+    tie.close
+    (tie.spec
+    Inv-loop
+    μ-loop
+    loop-holds
+    mul-sqrt
+    shared-slice-read-sqrt
+    sqrt-requires
+    mul-out
+    slice-write-out
+    add-i
+    loop-less
+    loop-again
+    same-length
+    returns)

@@ -1,0 +1,32 @@
+-- What holds of ln and of its tables, against the series at every number of terms from 12 on.
+use mathlib.Core.Path.{_≡_}
+use mathlib.Core.Bool.{true}
+use mathlib.Core.List.{List}
+use Prim.Native.Nat.{ℕ, _+_, _-_, _*_, _^_, _≤_, _<_}
+use lib.ListN.{getD}
+use lib.Ieee.{Float, lt, le}
+use Rattle.lists.specs.Build.{build}
+use Rattle.numbers.specs.Number.{number, finite, zeroF}
+use Rattle.rounding.specs.Near.{Within, Near}
+use Rattle.logarithm.specs.Series.{lnEntry, lnPlus, lnMinus}
+use Rattle.logarithm.specs.Steps.{quotientOf, remainderOf}
+
+-- w is the whole number nearest 2 ^ 70 * ln (1 + j / 256): within less than a half, which is 2 ^ 1003 units
+pub record NearestEntry (j w : ℕ) : Type 0 where
+  pub near : (k : ℕ) → 12 ≤ k → Within (2 ^ 1003 - 2 ^ 993) (lnEntry k j) (w * 2 ^ 1004)
+
+-- the two tables
+pub record Tabled (q r : List ℕ) : Type 0 where
+  pub quotients : q ≡ build 257 quotientOf
+  pub remainders : r ≡ build 257 remainderOf
+  pub nearest : (j : ℕ) → j < 257 → NearestEntry j (getD q j 0 * 2 ^ 27 + getD r j 0)
+
+-- r is within d units of the logarithm of x
+pub record LnNear (d : ℕ) (x r : Float) : Type 0 where
+  pub near : (k : ℕ) → 12 ≤ k → Near d r (lnPlus k x) (lnMinus k)
+
+-- The error of r as the logarithm of x: at most 2 ^ -41 for a finite x above zero, at most 2 ^ -49 for an x from 1/2 to 2. Of the limit of the series, which is within
+-- 2 ^ 22 units of the logarithm, the error is then below 2 ^ -40 and below 2 ^ -48, as document 01 has it.
+pub record LnError (x r : Float) : Type 0 where
+  pub everywhere : finite x ≡ true → lt zeroF x ≡ true → LnNear (2 ^ 1033) x r
+  pub between : le (number 0x3fe0000000000000) x ≡ true → le x (number 0x4000000000000000) ≡ true → LnNear (2 ^ 1025) x r

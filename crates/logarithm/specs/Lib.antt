@@ -1,0 +1,3 @@
+pub mod Series
+pub mod Steps
+pub mod Error

@@ -1,0 +1,4 @@
+mod Squares
+mod Cases
+pub mod Nearest
+mod Roots

@@ -1,0 +1,9 @@
+pub mod Within
+pub mod Units
+pub mod Rounded
+pub mod Operations
+pub mod Sums
+pub mod Products
+pub mod Exact
+pub mod Unique
+pub mod Zeros
