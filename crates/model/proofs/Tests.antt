@@ -1,0 +1,65 @@
+-- The loops over a model's parts. Assumes nothing.
+use Prim.Native.Nat.{ℕ, _+_, _≤_, _<_}
+use mathlib.Core.Path.{_≡_, refl, sym, ap, _∙_}
+use mathlib.Core.Bool.{Bool, true, false, not, _||_}
+use mathlib.Core.List.{List}
+use borrow.Author.Tests.{eq-eqb, ne-eqb}
+use lib.Ieee.{Float, nan}
+use Rattle.lists.specs.Fold.{fold}
+use Rattle.lists.proofs.Choices.{yes, no}
+use Rattle.lists.proofs.Folding.{fold-none, fold-more, fold-end}
+use Rattle.lists.proofs.Filling.{getD-build}
+use Rattle.numbers.specs.Slice.{at, numberAt, numbersAt, allFinite}
+use Rattle.refusal.specs.declared.Refusal.the-variants.{Shape, NonFinite, InvalidGstOptimization}
+use Rattle.card_layout.specs.declared.Header.{Header}
+use Rattle.card_parts.specs.Model.{stateOf}
+use Rattle.model.specs.declared.Checked.the-variants.{Good, Refused}
+use Rattle.model.specs.Checked.{anyOf, badName, badGate, checkedOf}
+
+module _ (b : Bool) (p : ℕ → Bool) where
+  pub any-none : (c : Bool) → c ≡ b → c ≡ anyOf b 0 p
+  unfolding anyOf
+  any-none c e = e ∙ fold-none _ b
+
+  pub any-more : (i : ℕ) (c d t : Bool) → c ≡ anyOf b i p → d ≡ (c || t) → t ≡ p i → d ≡ anyOf b (i + 1) p
+  unfolding anyOf
+  any-more i c d t a e f = fold-more (λ i c. c || p i) i b c d a (e ∙ ap (λ (x : Bool). c || x) f)
+
+  pub any-end : (i n : ℕ) (c : Bool) → i ≡ n → c ≡ anyOf b i p → c ≡ anyOf b n p
+  any-end i n c h a = a ∙ ap (λ (k : ℕ). anyOf b k p) h
+
+-- number i of those from word `from` on
+pub number-at : (s : List ℕ) (from n i : ℕ) → i < n → at (numbersAt s from n) i ≡ numberAt s (from + i)
+unfolding numbersAt
+number-at s from n i h = getD-build nan n i (λ k. numberAt s (from + k)) h
+
+-- ---- the tests of `check_model`, in their order
+
+module _ (s : List ℕ) (h : Header) where
+  pub no-dimension : h .dimension ≡ 0 → Refused NonFinite ≡ checkedOf s h
+  unfolding checkedOf
+  no-dimension e = yes _ (eq-eqb (h .dimension) 0 e)
+
+  module _ (d : h .dimension ≡ 0 → ⊥) where
+    pub bad-state : allFinite (stateOf s h) ≡ false → Refused NonFinite ≡ checkedOf s h
+    unfolding checkedOf
+    bad-state f = no _ (ne-eqb (h .dimension) 0 d) (yes _ (ap not f))
+
+    module _ (f : allFinite (stateOf s h) ≡ true) where
+      pub no-effects : h .effects ≡ 0 → Refused (Shape (h .dimension) 0) ≡ checkedOf s h
+      unfolding checkedOf
+      no-effects e = no _ (ne-eqb (h .dimension) 0 d) (no _ (ap not f) (yes _ (eq-eqb (h .effects) 0 e)))
+
+      module _ (e : h .effects ≡ 0 → ⊥) where
+        pub bad-number : badGate s h ≡ true → Refused NonFinite ≡ checkedOf s h
+        unfolding checkedOf
+        bad-number b = no _ (ne-eqb (h .dimension) 0 d) (no _ (ap not f) (no _ (ne-eqb (h .effects) 0 e) (yes _ b)))
+
+        module _ (b : badGate s h ≡ false) where
+          pub bad-names : anyOf false (h .gates) (badName s h) ≡ true → Refused (InvalidGstOptimization 6) ≡ checkedOf s h
+          unfolding checkedOf
+          bad-names n = no _ (ne-eqb (h .dimension) 0 d) (no _ (ap not f) (no _ (ne-eqb (h .effects) 0 e) (no _ b (yes _ n))))
+
+          pub all-good : anyOf false (h .gates) (badName s h) ≡ false → Good ≡ checkedOf s h
+          unfolding checkedOf
+          all-good n = no _ (ne-eqb (h .dimension) 0 d) (no _ (ap not f) (no _ (ne-eqb (h .effects) 0 e) (no _ b (no _ n refl))))

@@ -1,0 +1,42 @@
+/* Mintshuttle for C: link target/staticlib/libexports.a, which `rt staticlib exports` writes (x86-64, no other library).
+ *
+ * A slice is a pointer and a length in elements, aligned for its element. Slices of one call must not overlap, and no other thread may use them during
+ * the call. A pointer of an empty slice may be any that is not null. No function keeps a pointer, allocates, or fails in any other way than it says. */
+#ifndef MINTSHUTTLE_H
+#define MINTSHUTTLE_H
+
+#include <stddef.h>
+#include <stdint.h>
+
+#ifdef __cplusplus
+extern "C" {
+#endif
+
+/* What the slices of a call have to hold at least; less is refusal 16. */
+#define MINTSHUTTLE_RESULT_WORDS 4096
+#define MINTSHUTTLE_WORK_NUMBERS 8192
+#define MINTSHUTTLE_ANSWER_WORDS 5
+
+/* The sheet of a card.
+ *
+ * Returns 0 where a sheet was made, and the refusal's number N otherwise.
+ * answer: its first five words are written: the kind of the sheet and the numbers of its header, or 0, N, A, B, 0; with fewer than five words nothing
+ *   is written there and 16 is returned. Words beyond the fifth keep their values.
+ * result: a sheet writes its numbers from word 0, in the order in which they are printed, and no other word; a refusal writes none.
+ * work: all +0 after either outcome. What it held before does not matter. */
+uint64_t mintshuttle_sheet(const uint8_t *card, size_t card_len, uint64_t *result, size_t result_len, double *work, size_t work_len, uint64_t *answer,
+                           size_t answer_len);
+
+/* What the reader says of a card of any kind: 0, and the card's kind in the answer's word 0; or N, and 0, N, A, B, 0 in the answer. */
+uint64_t mintshuttle_read(const uint8_t *card, size_t card_len, uint64_t *answer, size_t answer_len);
+
+/* The number leaves, on many numbers: out[i] = f(x[i]) for every i below the smaller length, which is returned. The root is IEEE 754's nearest; the
+ * logarithm is within 2^-40 of the true one, and within 2^-48 for x from 1/2 to 2. */
+size_t mintshuttle_sqrt_all(const double *x, size_t x_len, double *out, size_t out_len);
+size_t mintshuttle_ln_all(const double *x, size_t x_len, double *out, size_t out_len);
+
+#ifdef __cplusplus
+}
+#endif
+
+#endif
