@@ -13,6 +13,8 @@ use Rattle.numbers.specs.Slice.{at, allFinite}
 use Rattle.refusal.specs.declared.Refusal.{Refusal}
 use Rattle.refusal.specs.declared.Refusal.the-variants.{NonFinite, InvalidNormalization, InvalidTolerance, Operator}
 use Rattle.pauli.specs.Exact.{Gaussian, stringEntry}
+use Rattle.pauli.specs.declared.Vetted.{Vetted}
+use Rattle.pauli.specs.declared.Vetted.the-variants as vetted
 use Rattle.pauli.specs.declared.Inverted.{Inverted}
 use Rattle.pauli.specs.declared.Inverted.the-variants.{Density, Refused}
 
@@ -45,15 +47,21 @@ withString n code w l = build (2 * (2 ^ n * 2 ^ n)) (λ k. at l k +ᶠ stringPar
 unfoldable pub densityOf : ℕ → List Float → List Float
 densityOf n es = build (2 * (2 ^ n * 2 ^ n)) (λ k. densityPart n es (k % 2) (k / 2 / 2 ^ n) (k / 2 % 2 ^ n))
 
--- What the Rust tests before it computes, in its order: the tolerance, the expectations, the identity's.
--- `next` is what follows where all are admitted.
-module _ {A : Type 0} (tolerance : Float) (es : List Float) (refused : Refusal → A) (next : A) where
-  unfoldable pub admitted : A
-  admitted =
-      cond (not (positive tolerance)) (refused InvalidTolerance)
-      (cond (not (allFinite es)) (refused NonFinite)
-      (cond (lt tolerance (abs (at es 0 -ᶠ oneF))) (refused (InvalidNormalization (at es 0)))
-      next))
+-- what the Rust tests of a vector of expectations, in its order: that all are finite, and that the identity's is near 1
+unfoldable pub vetOf : Float → List Float → Vetted
+vetOf tolerance es =
+    cond (not (allFinite es)) (vetted.Refused NonFinite)
+    (cond (lt tolerance (abs (at es 0 -ᶠ oneF))) (vetted.Refused (InvalidNormalization (at es 0)))
+    vetted.Good)
+
+-- what follows where a vector is good
+abbrev pub afterVet : {A : Type 0} → Vetted → (Refusal → A) → A → A
+afterVet (vetted.Refused r) refused next = refused r
+afterVet vetted.Good refused next = next
+
+-- what the Rust tests before it computes: the tolerance, then the expectations
+unfoldable pub admitted : {A : Type 0} → Float → List Float → (Refusal → A) → A → A
+admitted tolerance es refused next = cond (not (positive tolerance)) (refused InvalidTolerance) (afterVet (vetOf tolerance es) refused next)
 
 -- `Operator::try_new` refuses a part that is not finite
 unfoldable pub testedOf : ℕ → List Float → Inverted

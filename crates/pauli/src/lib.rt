@@ -10,7 +10,13 @@ ghost use Rattle.lists.specs.Build.{over};
 ghost use Rattle.numbers.specs.Number.{finite, _+ᶠ_, _*ᶠ_};
 ghost use Rattle.numbers.specs.Slice.{at, allFinite};
 ghost use Rattle.pauli.specs.Entry.{flipped, turned, filledColumn, filledPower, unitOf, withEntry, AllPlain};
-ghost use Rattle.pauli.specs.Density.{weight, withString, densityOf, testedOf, invertedOf, computedOf};
+ghost use Rattle.pauli.specs.Density.{weight, withString, densityOf, testedOf, vetOf, invertedOf, computedOf};
+
+// What the tests of a vector of expectations find.
+pub enum Vetted {
+    Good,
+    Refused(Refusal),
+}
 
 pub enum Inverted {
     Density { dimension: u64 },
@@ -155,6 +161,21 @@ fn density_tested(n: usize, es: &[f64], out: &mut [f64]) -> Inverted
     Inverted::Refused(Refusal::Operator)
 }
 
+// Tests a vector of expectations.
+pub fn vet(tolerance: f64, es: &[f64]) -> Vetted
+    requires { ⌜ 0 < length (now es) ⌝ }
+    ensures { λ r. ⌜ r ≡ vetOf tolerance (now (es .entry)) ⌝ }
+{
+    if !numbers::all_finite(es) {
+        return Vetted::Refused(Refusal::NonFinite);
+    }
+    let e = es[0];
+    if numbers::abs_of(e - 1.0) > tolerance {
+        return Vetted::Refused(Refusal::InvalidNormalization(e));
+    }
+    Vetted::Good
+}
+
 // The Rust's `linear_inversion`. An accepted call leaves the density matrix at the front of `out`, real and imaginary part of each entry by rows.
 pub fn linear_inversion(n: usize, tolerance: f64, es: &[f64], out: &mut [f64]) -> Inverted
     requires { ⌜ (n ≤ 3) × (length (now es) ≡ 4 ^ n) × (2 * (2 ^ n * 2 ^ n) ≤ length (now out)) ⌝ }
@@ -163,12 +184,9 @@ pub fn linear_inversion(n: usize, tolerance: f64, es: &[f64], out: &mut [f64]) -
     if !numbers::is_positive(tolerance) {
         return Inverted::Refused(Refusal::InvalidTolerance);
     }
-    if !numbers::all_finite(es) {
-        return Inverted::Refused(Refusal::NonFinite);
+    let found = vet(tolerance, es);
+    match found {
+        Vetted::Refused(r) => Inverted::Refused(r),
+        Vetted::Good => density_tested(n, es, out),
     }
-    let e = es[0];
-    if numbers::abs_of(e - 1.0) > tolerance {
-        return Inverted::Refused(Refusal::InvalidNormalization(e));
-    }
-    density_tested(n, es, out)
 }

@@ -24,7 +24,8 @@ use Rattle.card.specs.declared.Reading.the-variants as read
 use Rattle.card.specs.Reading.{header, faultOf, lengthRead, afterFault, readOf}
 use Rattle.pauli.specs.declared.Inverted.{Inverted}
 use Rattle.pauli.specs.declared.Inverted.the-variants as inverted
-use Rattle.pauli.specs.Density.{densityOf, admitted, testedOf, invertedOf}
+use Rattle.pauli.specs.declared.Vetted.the-variants as vetted
+use Rattle.pauli.specs.Density.{densityOf, vetOf, afterVet, admitted, testedOf, invertedOf}
 use Rattle.tomography.specs.declared.Answer.{Answer}
 use Rattle.tomography.specs.declared.Answer.the-variants.{Density, Refused}
 use Rattle.tomography.specs.Outcome.{Outcome, refused, Gives}
@@ -55,11 +56,12 @@ Inverts (inverted.Density d) = Unit {0}
 Inverts (inverted.Refused r) = codeOf r ≡ 16 → ⊥
 
 inverts : (n : ℕ) (t : Float) (es : List Float) → Inverts (invertedOf n t es)
-unfolding admitted testedOf
+unfolding admitted vetOf testedOf
 inverts n t es = go (not (positive t)) (not (allFinite es)) (lt t (abs (at es 0 -ᶠ oneF))) (allFinite (densityOf n es))
   where
     go : (a b c d : Bool)
-        → Inverts (cond a (inverted.Refused InvalidTolerance) (cond b (inverted.Refused NonFinite) (cond c (inverted.Refused (InvalidNormalization (at es 0))) (cond d (inverted.Density (2 ^ n)) (inverted.Refused Operator)))))
+        → Inverts (cond a (inverted.Refused InvalidTolerance)
+        (afterVet (cond b (vetted.Refused NonFinite) (cond c (vetted.Refused (InvalidNormalization (at es 0))) vetted.Good)) inverted.Refused (cond d (inverted.Density (2 ^ n)) (inverted.Refused Operator))))
     go true b c d = eqb-false 5 16 refl
     go false true c d = eqb-false 3 16 refl
     go false false true d = eqb-false 4 16 refl

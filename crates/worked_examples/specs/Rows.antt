@@ -14,7 +14,7 @@ use Rattle.card_layout.specs.Rules.{past, noMatrix, word0Breaks, qubitsBreak}
 use Rattle.card_places.specs.Places.{modelAt}
 use Rattle.card.specs.Reading.{header, examined, wordAtFault, sizeAtFault, atFault, lowest, faultOf, lengthRead, readOf}
 use Rattle.pauli.specs.Exact.{product, pauliMatrices, stringEntry}
-use Rattle.pauli.specs.Density.{pinned, weight, densityPart, densityOf, admitted, testedOf}
+use Rattle.pauli.specs.Density.{pinned, weight, densityPart, densityOf, vetOf, admitted, testedOf}
 use Rattle.tomography.specs.Sheet.{inversionSheet, kindSheet, built, sheetOf, roomy, outcomeOf}
 use Rattle.refusal.specs.declared.Refusal.the-variants.{InvalidNormalization}
 use Rattle.tomography.specs.declared.Answer.the-variants.{Density, Refused}
@@ -47,5 +47,5 @@ rows =
     ∷ []
 
 pub rows-right : Right rows
-unfolding from build fold wordAt finite positive abs numbersAt wordsOf blank allFinite times modelRoles recordRoles afterWord0 layout breaks faulty unknown limitsOf past noMatrix word0Breaks qubitsBreak modelAt header examined wordAtFault sizeAtFault atFault lowest faultOf lengthRead readOf product pauliMatrices stringEntry pinned weight densityPart densityOf admitted testedOf inversionSheet kindSheet built sheetOf roomy outcomeOf ofBits ofFields odd toBits add sub mul div neg sum round units lt le eq span climb size ofInt
+unfolding from build fold wordAt finite positive abs numbersAt wordsOf blank allFinite times modelRoles recordRoles afterWord0 layout breaks faulty unknown limitsOf past noMatrix word0Breaks qubitsBreak modelAt header examined wordAtFault sizeAtFault atFault lowest faultOf lengthRead readOf product pauliMatrices stringEntry pinned weight densityPart densityOf vetOf admitted testedOf inversionSheet kindSheet built sheetOf roomy outcomeOf ofBits ofFields odd toBits add sub mul div neg sum round units lt le eq span climb size ofInt
 rows-right = (refl, (refl, (refl, (refl, tt))))
