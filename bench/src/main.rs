@@ -1,4 +1,4 @@
-//! The port and the Rust on the same cards, in one process: `bench [ROUNDS [KIND..]]`.
+//! The port and the Rust on the same cards, in one process: `bench [ROUNDS [KIND..]]`. KIND is 1 to 7, `sqrt` or `ln`.
 //!
 //! A round runs a batch of each in turn, so that a slower or faster stretch of the machine meets all of them. The median
 //! over the rounds is printed.
@@ -7,7 +7,9 @@ mod cards;
 
 use reference::card::{self, Job};
 use reference::hooks::with_rotations;
+use reference::ln::ln;
 use reference::port::{self, ANSWER_WORDS, RESULT_WORDS, WORK_WORDS};
+use reference::random::Rng;
 use reference::sheet::{self, Outcome};
 use reference::tomography::{
     linear_inversion, process_linear_inversion, project_density_with_tolerance, reconstruct_gate_set, Complex64,
@@ -19,6 +21,11 @@ use std::time::Instant;
 
 /// A batch lasts about this long.
 const BATCH_NS: f64 = 1e6;
+/// Length of the arrays of `sqrt` and `ln`.
+const NUMBERS: usize = 4096;
+const USAGE: &str = "bench [ROUNDS [1..7 | sqrt | ln]..]";
+/// What is timed, with the name that is printed.
+type Run = (&'static str, Box<dyn FnMut()>);
 
 /// The Rust's function alone on values that are parsed and built before the clock starts. A new kind needs an arm here
 /// and a card in cards.rs.
@@ -115,42 +122,107 @@ fn median(mut times: Vec<f64>) -> f64 {
     times[times.len() / 2]
 }
 
+/// The median time of a call of each, in ns.
+fn medians(runs: &mut [Run], rounds: usize) -> Vec<f64> {
+    let calls: Vec<u64> = runs.iter_mut().map(|(_, f)| calls_in_a_batch(f)).collect();
+    let mut times = vec![Vec::with_capacity(rounds); runs.len()];
+    for _ in 0..rounds {
+        for (k, (_, f)) in runs.iter_mut().enumerate() {
+            times[k].push(batch_ns(f, calls[k]) / calls[k] as f64);
+        }
+    }
+    times.into_iter().map(median).collect()
+}
+
+fn card(name: &str, kind: u8, words: &[u64], rounds: usize) {
+    let bytes = card::bytes_of(words);
+    check_agreement(&bytes);
+    let job = card::read(&bytes).expect("the card is accepted");
+    let whole = bytes.clone();
+    let mut runs: Vec<Run> = vec![
+        ("port, card to result", port_call(bytes)),
+        ("Rust function alone, values parsed", rust_alone(job)),
+        ("Rust, card to result words", Box::new(move || {
+            black_box(sheet::outcome(black_box(&whole)));
+        })),
+        // An unknown kind is refused at once: what remains is the call and clearing work.
+        ("port, refused at word 0", port_call(vec![0; 8])),
+    ];
+    let medians = medians(&mut runs, rounds);
+    println!("kind {kind}, {name} ({rounds} rounds, median ns a call)");
+    for ((label, _), ns) in runs.iter().zip(&medians) {
+        println!("  {label:36} {ns:12.1}");
+    }
+    println!("  Rust alone / port                    {:12.2}", medians[1] / medians[0]);
+    println!("  Rust card to words / port            {:12.2}", medians[2] / medians[0]);
+}
+
+/// Positive numbers from 2^-64 to 2^64, every exponent and all digits alike.
+fn generic_numbers() -> Vec<u64> {
+    let mut rng = Rng::new(11);
+    (0..NUMBERS).map(|_| rng.between(1023 - 64, 1023 + 63) << 52 | rng.below(1 << 52)).collect()
+}
+
+/// f in a loop over the numbers. As f is known here, the loop is compiled for it.
+fn rust_loop(f: impl Fn(f64) -> f64 + 'static) -> Box<dyn FnMut()> {
+    let x: Vec<f64> = generic_numbers().into_iter().map(f64::from_bits).collect();
+    let mut out = vec![0.0; NUMBERS];
+    Box::new(move || {
+        for (out, &x) in out.iter_mut().zip(black_box(&x)) {
+            *out = f(x);
+        }
+        black_box(&mut out);
+    })
+}
+
+fn port_loop(all: fn(&[u64], &mut [u64]) -> usize) -> Box<dyn FnMut()> {
+    let (x, mut out) = (generic_numbers(), vec![0; NUMBERS]);
+    Box::new(move || {
+        black_box(all(black_box(&x), &mut out));
+        black_box(&mut out);
+    })
+}
+
+/// The port's function on many numbers beside others; the first of them is what it is held to.
+fn leaf(name: &str, all: fn(&[u64], &mut [u64]) -> usize, held_to: fn(f64) -> f64, others: Vec<Run>, rounds: usize) {
+    let (x, mut out) = (generic_numbers(), vec![0; NUMBERS]);
+    assert_eq!(all(&x, &mut out), NUMBERS);
+    let wanted: Vec<u64> = x.iter().map(|&bits| held_to(f64::from_bits(bits)).to_bits()).collect();
+    assert_eq!(out, wanted, "the port's numbers are the Rust's");
+
+    let mut runs: Vec<Run> = vec![("port", port_loop(all))];
+    runs.extend(others);
+    let medians = medians(&mut runs, rounds);
+    println!("{name}, {NUMBERS} numbers ({rounds} rounds, median ns a number)");
+    for ((label, _), ns) in runs.iter().zip(&medians) {
+        println!("  {label:36} {:12.2}", ns / NUMBERS as f64);
+    }
+    for ((label, _), ns) in runs.iter().zip(&medians).skip(1) {
+        println!("  {:36} {:12.2}", format!("{label} / port"), ns / medians[0]);
+    }
+}
+
 fn main() {
     let arguments: Vec<String> = std::env::args().skip(1).collect();
-    let rounds: usize = arguments.first().map_or(201, |rounds| rounds.parse().expect("bench [ROUNDS [KIND..]]"));
-    assert!(rounds > 0);
-    let wanted = |kind: u8| arguments.len() < 2 || arguments[1..].contains(&kind.to_string());
+    let rounds: usize = arguments.first().map_or(201, |rounds| rounds.parse().expect(USAGE));
+    assert!(rounds > 0, "{USAGE}");
+    let asked = arguments.get(1..).unwrap_or_default();
+    let known = ["1", "2", "3", "4", "5", "6", "7", "sqrt", "ln"];
+    assert!(asked.iter().all(|kind| known.contains(&kind.as_str())), "{USAGE}");
+    let wanted = |kind: &str| asked.is_empty() || asked.iter().any(|name| name == kind);
     for (name, words) in cards::cards() {
         let kind = card::Head::of(words[0]).kind;
-        if !BUILT.contains(&kind) || !wanted(kind) {
-            continue;
+        if BUILT.contains(&kind) && wanted(&kind.to_string()) {
+            card(name, kind, &words, rounds);
         }
-        let bytes = card::bytes_of(&words);
-        check_agreement(&bytes);
-        let job = card::read(&bytes).expect("the card is accepted");
-        let whole = bytes.clone();
-        let mut runs: Vec<(&str, Box<dyn FnMut()>)> = vec![
-            ("port, card to result", port_call(bytes)),
-            ("Rust function alone, values parsed", rust_alone(job)),
-            ("Rust, card to result words", Box::new(move || {
-                black_box(sheet::outcome(black_box(&whole)));
-            })),
-            // An unknown kind is refused at once: what remains is the call and clearing work.
-            ("port, refused at word 0", port_call(vec![0; 8])),
-        ];
-        let calls: Vec<u64> = runs.iter_mut().map(|(_, f)| calls_in_a_batch(f)).collect();
-        let mut times = vec![Vec::with_capacity(rounds); runs.len()];
-        for _ in 0..rounds {
-            for (k, (_, f)) in runs.iter_mut().enumerate() {
-                times[k].push(batch_ns(f, calls[k]) / calls[k] as f64);
-            }
-        }
-        let medians: Vec<f64> = times.into_iter().map(median).collect();
-        println!("kind {kind}, {name} ({rounds} rounds, median ns a call)");
-        for ((label, _), ns) in runs.iter().zip(&medians) {
-            println!("  {label:36} {ns:12.1}");
-        }
-        println!("  Rust alone / port                    {:12.2}", medians[1] / medians[0]);
-        println!("  Rust card to words / port            {:12.2}", medians[2] / medians[0]);
+    }
+    if wanted("sqrt") {
+        let others: Vec<Run> = vec![("f64::sqrt in a loop", rust_loop(f64::sqrt))];
+        leaf("sqrt", port::sqrt_all, f64::sqrt, others, rounds);
+    }
+    if wanted("ln") {
+        let others: Vec<Run> =
+            vec![("document 01's ln in Rust", rust_loop(ln)), ("f64::ln (another function)", rust_loop(f64::ln))];
+        leaf("ln", port::ln_all, ln, others, rounds);
     }
 }

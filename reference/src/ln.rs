@@ -13,6 +13,13 @@ pub fn ln(x: f64) -> f64 {
     if x == f64::INFINITY {
         return x;
     }
+    let (hi, lo, rest) = parts(x);
+    hi + (lo + rest)
+}
+
+/// What the last step adds up, for a positive finite x.
+#[inline]
+pub fn parts(x: f64) -> (f64, f64, f64) {
     let bits = x.to_bits();
     let fraction = bits & ((1 << 52) - 1);
     let (m, e) = match (bits >> 52) as i64 {
@@ -27,7 +34,7 @@ pub fn ln(x: f64) -> f64 {
     let hi = (e * QUOTIENTS[256] + QUOTIENTS[j]) as f64 / TWO_43;
     let lo = (e * REMAINDERS[256] + REMAINDERS[j]) as f64 / TWO_70;
     let t = (m & LOW) as f64 / ((256 + j as u64) << 44) as f64;
-    hi + (lo + (t - t * t * (1.0 / 2.0 - t * (1.0 / 3.0 - t * (1.0 / 4.0 - t * (1.0 / 5.0 - t / 6.0))))))
+    (hi, lo, t - t * t * (1.0 / 2.0 - t * (1.0 / 3.0 - t * (1.0 / 4.0 - t * (1.0 / 5.0 - t / 6.0)))))
 }
 
 #[cfg(test)]

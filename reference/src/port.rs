@@ -13,6 +13,10 @@ extern "C" {
     ) -> u64;
 
     fn mintshuttle_read(card: *const u8, card_len: usize, answer: *mut u64, answer_len: usize) -> u64;
+
+    fn mintshuttle_sqrt_all(x: *const f64, x_len: usize, out: *mut f64, out_len: usize) -> usize;
+
+    fn mintshuttle_ln_all(x: *const f64, x_len: usize, out: *mut f64, out_len: usize) -> usize;
 }
 
 /// The least lengths of the lent slices.
@@ -41,4 +45,16 @@ pub fn sheet(card: &[u8], result: &mut [u64], work: &mut [u64], answer: &mut [u6
 pub fn read(card: &[u8], answer: &mut [u64]) -> u64 {
     // SAFETY: each pointer comes with its slice's length.
     unsafe { mintshuttle_read(card.as_ptr(), card.len(), answer.as_mut_ptr(), answer.len()) }
+}
+
+/// The root of each number of `x`, in `out`, as far as both go; how many. Both hold the bits of floats.
+pub fn sqrt_all(x: &[u64], out: &mut [u64]) -> usize {
+    // SAFETY: as for the sheet.
+    unsafe { mintshuttle_sqrt_all(x.as_ptr().cast(), x.len(), out.as_mut_ptr().cast(), out.len()) }
+}
+
+/// The same with the logarithm.
+pub fn ln_all(x: &[u64], out: &mut [u64]) -> usize {
+    // SAFETY: as for the sheet.
+    unsafe { mintshuttle_ln_all(x.as_ptr().cast(), x.len(), out.as_mut_ptr().cast(), out.len()) }
 }

@@ -1,10 +1,12 @@
 //! Compares the port with the Rust: `compare COUNT SEED [GROUP..]`.
 //!
-//! A group is a kind (1 to 7) of the sheet entry or `read`; without one all are run. Each has its fixed cards and COUNT
-//! random ones. The exit status is 1 if anything differs.
+//! A group is a kind (1 to 7) of the sheet entry, `read`, `sqrt` or `ln`; without one all are run. Each has its fixed
+//! cards and COUNT random ones; `sqrt` and `ln` have fixed numbers and 100 times COUNT random ones. The exit status is 1 if
+//! anything differs.
 
 use reference::card::{self, bytes_of, Refusal};
-use reference::makers::{self, fixed};
+use reference::ln::ln;
+use reference::makers::{self, arguments, fixed};
 use reference::port::{self, ANSWER_WORDS, RESULT_WORDS, WORK_WORDS};
 use reference::random::Rng;
 use reference::sheet::{self, Outcome};
@@ -15,6 +17,29 @@ use std::process::ExitCode;
 /// Words before and after each lent slice that must stay as they are.
 const GUARD: usize = 16;
 const SHOWN: usize = 5;
+
+const USAGE: &str = "compare COUNT SEED [1..7 | read | sqrt | ln]..
+  COUNT random cards for each kind and for read, 100 times COUNT random numbers for sqrt and for ln";
+
+/// Random numbers of `sqrt` and `ln` for each random card of another group.
+const NUMBERS_PER_COUNT: u64 = 100;
+/// Most numbers in one call.
+const BATCH: usize = 4096;
+/// What the summary of `sqrt` and `ln` counts apart.
+const SORTS: [&str; 6] = ["normal", "subnormal", "zero", "+infinity", "below zero", "NaN"];
+
+/// A function of one number: the port's on many at once, and the one that it is held to.
+struct Leaf {
+    name: &'static str,
+    port: fn(&[u64], &mut [u64]) -> usize,
+    rust: fn(f64) -> f64,
+    fixed: fn(&mut Rng) -> Vec<u64>,
+}
+
+const LEAVES: [Leaf; 2] = [
+    Leaf { name: "sqrt", port: port::sqrt_all, rust: f64::sqrt, fixed: arguments::for_sqrt },
+    Leaf { name: "ln", port: port::ln_all, rust: ln, fixed: arguments::for_ln },
+];
 
 /// What a slice holds before the call.
 #[derive(Clone, Copy)]
@@ -111,6 +136,7 @@ struct Compare {
     work: Lent,
     answer: Lent,
     card: Vec<u8>,
+    numbers: Vec<u64>,
     agreed: BTreeMap<String, u64>,
     differing: usize,
 }
@@ -123,6 +149,7 @@ impl Compare {
             work: Lent::new(),
             answer: Lent::new(),
             card: Vec::new(),
+            numbers: Vec::new(),
             agreed: BTreeMap::new(),
             differing: 0,
         }
@@ -213,6 +240,95 @@ impl Compare {
         let found = format!("{} (lent {answer} answer words)", words(self.answer.slice()));
         self.note(label, bytes, words(&head), found, difference);
     }
+
+    /// All of `source`, in batches of any length.
+    fn numbers(&mut self, leaf: &Leaf, mut source: impl Iterator<Item = u64>) {
+        let mut shown = 0;
+        let mut next = Vec::new();
+        loop {
+            let length = match self.rng.below(32) {
+                0 => 0,
+                1 => self.rng.index(20),
+                2 => self.rng.index(BATCH),
+                _ => BATCH,
+            };
+            let lacking = length.saturating_sub(next.len());
+            next.extend(source.by_ref().take(lacking));
+            if next.is_empty() && length > 0 {
+                break;
+            }
+            let x = &next[..length.min(next.len())];
+            let out = match self.rng.below(16) {
+                0 => 0,
+                1 => x.len().saturating_sub(1),
+                2..=4 => self.rng.index(x.len() + 1),
+                5..=9 => x.len() + 1 + self.rng.index(70),
+                _ => x.len(),
+            };
+            for difference in self.batch(leaf, x, out).iter().take(SHOWN - shown) {
+                println!("{} differs: {difference} (lent {} numbers and {out} words)", leaf.name, x.len());
+                shown += 1;
+            }
+            // What did not fit into out comes again.
+            next.drain(..out.min(x.len()));
+        }
+    }
+
+    /// One call, with `out` words lent. NaNs count as equal. Returns what to show.
+    fn batch(&mut self, leaf: &Leaf, x: &[u64], out: usize) -> Vec<String> {
+        self.result.fill(out, &mut self.rng);
+        let shift = self.rng.index(8);
+        self.numbers.clear();
+        self.numbers.resize(shift, 0x7ff8_aaaa_aaaa_aaaa);
+        self.numbers.extend_from_slice(x);
+        let returned = (leaf.port)(&self.numbers[shift..], self.result.slice());
+
+        let done = x.len().min(out);
+        let found = self.result.slice()[..done].to_vec();
+        let mut differences = Vec::new();
+        let mut agreed = [0; SORTS.len()];
+        for (&bits, &found) in x.iter().zip(&found) {
+            let wanted = (leaf.rust)(f64::from_bits(bits));
+            if found == wanted.to_bits() || wanted.is_nan() && f64::from_bits(found).is_nan() {
+                agreed[sort_of(bits)] += 1;
+                continue;
+            }
+            self.differing += 1;
+            if differences.len() < SHOWN {
+                let (x, wanted) = (f64::from_bits(bits), wanted.to_bits());
+                differences.push(format!("of {bits:016x} ({x:e}) the port has {found:016x}, the Rust {wanted:016x}"));
+            }
+        }
+        for (sort, agreed) in SORTS.iter().zip(agreed).filter(|(_, agreed)| *agreed > 0) {
+            *self.agreed.entry(format!("{}, {sort}", leaf.name)).or_default() += agreed;
+        }
+        let rest = check_code(returned as u64, done as u64)
+            .and_then(|()| self.result.check("out", &found, None))
+            .and_then(|()| if self.numbers[shift..] == *x { Ok(()) } else { Err("x was written to".to_string()) });
+        if let Err(rest) = rest {
+            self.differing += 1;
+            differences.insert(0, rest);
+        }
+        differences
+    }
+}
+
+/// Its place in SORTS.
+fn sort_of(bits: u64) -> usize {
+    let x = f64::from_bits(bits);
+    if x.is_nan() {
+        5
+    } else if x < 0.0 {
+        4
+    } else if x == f64::INFINITY {
+        3
+    } else if x == 0.0 {
+        2
+    } else if x.is_subnormal() {
+        1
+    } else {
+        0
+    }
 }
 
 fn check_code(found: u64, wanted: u64) -> Result<(), String> {
@@ -261,10 +377,14 @@ fn main() -> ExitCode {
         _ => None,
     };
     let Some((count, seed)) = numbers else {
-        eprintln!("compare COUNT SEED [1..7 | read]..");
+        eprintln!("{USAGE}");
         return ExitCode::from(2);
     };
     let groups = &arguments[2..];
+    if !groups.iter().all(|group| ["1", "2", "3", "4", "5", "6", "7", "read", "sqrt", "ln"].contains(&group.as_str())) {
+        eprintln!("{USAGE}");
+        return ExitCode::from(2);
+    }
     let wanted = |group: &str| groups.is_empty() || groups.iter().any(|name| name == group);
     let mut compare = Compare::new(seed);
 
@@ -305,6 +425,12 @@ fn main() -> ExitCode {
                 compare.read(&makers::readings::reading(&mut rng));
             }
         }
+    }
+
+    for leaf in LEAVES.iter().filter(|leaf| wanted(leaf.name)) {
+        let mut rng = Rng::new(seed);
+        compare.numbers(leaf, (leaf.fixed)(&mut rng).into_iter());
+        compare.numbers(leaf, (0..count.saturating_mul(NUMBERS_PER_COUNT)).map(|_| arguments::any(&mut rng)));
     }
 
     for (label, agreed) in &compare.agreed {

@@ -1,5 +1,6 @@
 //! Cards to try, made from a seed.
 
+pub mod arguments;
 pub mod damage;
 mod density;
 pub mod fixed;
