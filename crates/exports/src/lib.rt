@@ -2,6 +2,7 @@
 use card::Reading;
 use refusal::Refusal;
 use tomography::Answer;
+use tomography::library::LibraryAnswer;
 ghost use mathlib.Core.Path.{_≡_};
 ghost use mathlib.Core.List.{_∷_, [], _++_};
 ghost use Prim.Native.Nat.{_≤_, min};
@@ -11,7 +12,9 @@ ghost use Rattle.numbers.specs.Slice.{at};
 ghost use Rattle.root.specs.Root.{sqrt};
 ghost use Rattle.logarithm.specs.Steps.{ln, lnBy, entriesOf};
 ghost use Rattle.refusal.specs.Values.{codeOf};
+ghost use Rattle.tomography.specs.Library.{probesEntry, settingEntry};
 ghost use Rattle.exports.specs.Exported.{refusalWords, answerWords, answerCode, readingWords, readingCode, SheetExported, ReadExported, Mapped};
+ghost use Rattle.exports.specs.Library.{libraryWords, libraryCode, EntryExported};
 
 fn put(out: &mut [u64], a: u64, b: u64, c: u64, d: u64)
     requires { ⌜ 5 ≤ length (now out) ⌝ }
@@ -46,6 +49,23 @@ fn put_answer(a: Answer, out: &mut [u64]) -> u64
     }
 }
 
+fn put_library(a: LibraryAnswer, out: &mut [u64]) -> u64
+    requires { ⌜ 5 ≤ length (now out) ⌝ }
+    ensures { λ n. ⌜ (n ≡ libraryCode a) × (now (out .exit) ≡ over (libraryWords a) (now (out .entry))) ⌝ }
+{
+    match a {
+        LibraryAnswer::Probes { count } => {
+            put(out, 8, count, 0, 0);
+            0
+        }
+        LibraryAnswer::Setting { qubits } => {
+            put(out, 9, qubits, 0, 0);
+            0
+        }
+        LibraryAnswer::Refused(r) => put_refusal(r, out),
+    }
+}
+
 fn put_reading(a: Reading, out: &mut [u64]) -> u64
     requires { ⌜ 5 ≤ length (now out) ⌝ }
     ensures { λ n. ⌜ (n ≡ readingCode a) × (now (out .exit) ≡ over (readingWords a) (now (out .entry))) ⌝ }
@@ -76,6 +96,43 @@ pub extern "C" fn mintshuttle_sheet(
     }
     let a = tomography::sheet(card, result, work);
     put_answer(a, answer)
+}
+
+// The expectations of the product probes of n qubits.
+#[no_mangle]
+pub extern "C" fn mintshuttle_probes(
+    n: u64,
+    result: &mut [u64],
+    work: &mut [f64],
+    answer: &mut [u64],
+) -> u64
+    ensures { λ r. ⌜ EntryExported (probesEntry n) (now (result .entry)) (now (result .exit)) (now (work .entry)) (now (work .exit)) (now (answer .entry)) (now (answer .exit)) r ⌝ }
+{
+    if answer.len() < 5 {
+        numbers::clear(work);
+        return 16;
+    }
+    let a = tomography::library::product_probe_expectations(n, result, work);
+    put_library(a, answer)
+}
+
+// The axes of one setting of n qubits.
+#[no_mangle]
+pub extern "C" fn mintshuttle_setting(
+    n: u64,
+    index: u64,
+    result: &mut [u64],
+    work: &mut [f64],
+    answer: &mut [u64],
+) -> u64
+    ensures { λ r. ⌜ EntryExported (settingEntry n index) (now (result .entry)) (now (result .exit)) (now (work .entry)) (now (work .exit)) (now (answer .entry)) (now (answer .exit)) r ⌝ }
+{
+    if answer.len() < 5 {
+        numbers::clear(work);
+        return 16;
+    }
+    let a = tomography::library::local_pauli_setting(n, index, result, work);
+    put_library(a, answer)
 }
 
 // What the reader says of a card, of any kind of document 01: whether it would be refused by its layout alone.

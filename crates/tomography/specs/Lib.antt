@@ -1,2 +1,3 @@
+pub mod Library
 pub mod Outcome
 pub mod Sheet

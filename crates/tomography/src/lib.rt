@@ -15,6 +15,8 @@ ghost use Rattle.pauli.specs.Density.{invertedOf, computedOf};
 ghost use Rattle.tomography.specs.Outcome.{Gives};
 ghost use Rattle.tomography.specs.Sheet.{inversionSheet, kindSheet, built, sheetOf, outcomeOf, Sheet};
 
+pub mod library;
+
 // A sheet's header, or a refusal.
 pub enum Answer {
     Density { dimension: u64 },

@@ -1,0 +1,3 @@
+pub mod Digit
+pub mod Probes
+pub mod Settings

@@ -1,0 +1,70 @@
+-- `elimination::copy_row` meets its contract. Assumes nothing.
+use Prim.Native.Nat.{_≤_, _-_, _+_}
+use mathlib.Core.Path.{_≡_, refl, ap, _∙_}
+use mathlib.Core.List.{List, _++_}
+use native.Mathlib.Omega.{arith}
+use denote.Ref.{now}
+use lib.ListN.{length, drop}
+use lib.Ieee.{Float, nan}
+use Rattle.lists.proofs.Filling.{Filled, fill-none, fill-more, fill-end, build-part}
+use Rattle.numbers.specs.Slice.{at}
+use borrow.Author.Needs.{needs}
+use Rattle.elimination.proofs.copy_row.Statement.{statement}
+use Rattle.elimination.proofs.copy_row.Tie as tie
+
+abbrev Inv-loop : tie.InvT-loop
+Inv-loop from start w out₀ j₀ out j = (j ≤ w) × (length out ≡ length out₀) × Filled (λ j. at from (start + j)) out₀ j out
+
+abbrev μ-loop : tie.MeasureT-loop
+μ-loop from start w out₀ j₀ out j = w - j
+
+loop-holds : tie.Need-loop-holds Inv-loop μ-loop
+loop-holds c = (search needs, search needs, fill-none _ _)
+
+add-out : tie.Need-add-out Inv-loop μ-loop
+add-out c = search needs
+
+mul-out : tie.Need-mul-out Inv-loop μ-loop
+mul-out c = search needs
+
+shared-slice-read-out : tie.Need-shared-slice-read-out Inv-loop μ-loop
+shared-slice-read-out c = search needs
+
+mul-out-2 : tie.Need-mul-out-2 Inv-loop μ-loop
+mul-out-2 c = search needs
+
+slice-write-out : tie.Need-slice-write-out Inv-loop μ-loop
+slice-write-out c = search needs
+
+add-j : tie.Need-add-j Inv-loop μ-loop
+add-j c = search needs
+
+loop-less : tie.Need-loop-less Inv-loop μ-loop
+loop-less c = search needs
+
+loop-again : tie.Need-loop-again Inv-loop μ-loop
+loop-again c = (search needs, search needs, fill-more _ _ _ _ _ (search needs) (c .before .before .loop .inv .2) refl)
+
+same-length : tie.Need-same-length Inv-loop μ-loop
+same-length c = search needs
+
+returns : tie.Need-returns Inv-loop μ-loop
+returns c = fill-end _ _ _ _ _ (omega arith) (c .before .loop .inv .2) ∙ ap (λ (l : List Float). l ++ drop (c .before .before .args .w) (now (c .before .before .args .out))) (build-part nan (c .before .before .args .start) (c .before .before .args .w) (now (c .before .before .args .from)) (search needs))
+
+pub copy-row-spec : {M : Type 1} → statement M
+copy-row-spec =
+    tie.close
+    (tie.spec
+    Inv-loop
+    μ-loop
+    loop-holds
+    add-out
+    mul-out
+    shared-slice-read-out
+    mul-out-2
+    slice-write-out
+    add-j
+    loop-less
+    loop-again
+    same-length
+    returns)

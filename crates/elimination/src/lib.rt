@@ -1,0 +1,115 @@
+// The row operations of Gauss-Jordan elimination. A row is lent as a part of the work slice; a row that another one needs is copied to a local array.
+ghost use mathlib.Core.Path.{_≡_};
+ghost use mathlib.Core.List.{_++_};
+ghost use Prim.Native.Nat.{_+_, _*_, _≤_, _<_};
+ghost use lib.ListN.{length, take, drop};
+ghost use Rattle.lists.specs.Fold.{fold};
+ghost use Rattle.lists.specs.Part.{part};
+ghost use Rattle.elimination.specs.Rows.{swapped, dividedRow, lessRow, eliminatedRow, eliminated, clearedBy};
+
+// Copies w numbers from `start` on to the front of `out`.
+pub fn copy_row(from: &[f64], start: usize, w: usize, out: &mut [f64])
+    requires { ⌜ (start + w ≤ length (now from)) × (w ≤ length (now out)) ⌝ }
+    ensures { λ _. ⌜ now (out .exit) ≡ part start w (now (from .entry)) ++ drop w (now (out .entry)) ⌝ }
+{
+    for j in 0..w {
+        out[j] = from[start + j];
+    }
+}
+
+// Writes the row over with the front of `from`.
+pub fn put_row(row: &mut [f64], from: &[f64])
+    requires { ⌜ length (now row) ≤ length (now from) ⌝ }
+    ensures { λ _. ⌜ now (row .exit) ≡ take (length (now (row .entry))) (now (from .entry)) ⌝ }
+{
+    let w = row.len();
+    for j in 0..w {
+        row[j] = from[j];
+    }
+}
+
+// Exchanges rows i and k.
+fn swap_rows(work: &mut [f64], w: usize, i: usize, k: usize)
+    requires { ⌜ (w ≤ 32) × (i * w + w ≤ length (now work)) × (k * w + w ≤ length (now work)) ⌝ }
+    ensures { λ _. ⌜ now (work .exit) ≡ swapped w i k (now (work .entry)) ⌝ }
+{
+    let mut first = [0.0f64; 32];
+    let mut second = [0.0f64; 32];
+    copy_row(work, i * w, w, &mut first);
+    copy_row(work, k * w, w, &mut second);
+    let start = i * w;
+    let end = start + w;
+    put_row(&mut work[start..end], &second);
+    let start_k = k * w;
+    let end_k = start_k + w;
+    put_row(&mut work[start_k..end_k], &first);
+}
+
+// Divides the row by its entry k, read before.
+fn divide_row(row: &mut [f64], k: usize)
+    requires { ⌜ k < length (now row) ⌝ }
+    ensures { λ _. ⌜ now (row .exit) ≡ dividedRow k (now (row .entry)) ⌝ }
+{
+    let d = row[k];
+    let width = row.len();
+    for j in 0..width {
+        row[j] = row[j] / d;
+    }
+}
+
+// Takes f times the pivot row from the row.
+fn subtract_row(row: &mut [f64], pivot: &[f64], f: f64)
+    requires { ⌜ length (now row) ≤ length (now pivot) ⌝ }
+    ensures { λ _. ⌜ now (row .exit) ≡ lessRow (now (pivot .entry)) f (now (row .entry)) ⌝ }
+{
+    let w = row.len();
+    for j in 0..w {
+        row[j] = row[j] - f * pivot[j];
+    }
+}
+
+// Eliminates column k from row i.
+fn eliminate_row(work: &mut [f64], pivot: &[f64], w: usize, k: usize, i: usize)
+    requires { ⌜ (k < w) × (length (now pivot) ≡ w) × (i * w + w ≤ length (now work)) ⌝ }
+    ensures { λ _. ⌜ now (work .exit) ≡ eliminatedRow (now (pivot .entry)) w k i (now (work .entry)) ⌝ }
+{
+    if i == k {
+        return;
+    }
+    let start = i * w;
+    let end = start + w;
+    let f = work[start + k];
+    subtract_row(&mut work[start..end], pivot, f);
+}
+
+// Eliminates column k from every row but row k.
+fn eliminate_rows(work: &mut [f64], pivot: &[f64], n: usize, w: usize, k: usize)
+    requires { ⌜ (k < w) × (length (now pivot) ≡ w) × (n * w ≤ length (now work)) ⌝ }
+    ensures { λ _. ⌜ now (work .exit) ≡ fold n (eliminatedRow (now (pivot .entry)) w k) (now (work .entry)) ⌝ }
+{
+    for i in 0..n {
+        eliminate_row(work, pivot, w, k, i);
+    }
+}
+
+// The same by row k, copied first.
+fn eliminate(work: &mut [f64], n: usize, w: usize, k: usize)
+    requires { ⌜ (k < n) × (k < w) × (w ≤ 32) × (n * w ≤ length (now work)) ⌝ }
+    ensures { λ _. ⌜ now (work .exit) ≡ eliminated n w k (now (work .entry)) ⌝ }
+{
+    let mut pivot = [0.0f64; 32];
+    copy_row(work, k * w, w, &mut pivot);
+    eliminate_rows(work, &pivot[..w], n, w, k);
+}
+
+// Clears column k of n rows of w numbers by the pivot in row p.
+pub fn clear_column(work: &mut [f64], n: usize, w: usize, k: usize, p: usize)
+    requires { ⌜ (k < n) × (p < n) × (k < w) × (w ≤ 32) × (n * w ≤ length (now work)) ⌝ }
+    ensures { λ _. ⌜ now (work .exit) ≡ clearedBy n w k p (now (work .entry)) ⌝ }
+{
+    swap_rows(work, w, p, k);
+    let start = k * w;
+    let end = start + w;
+    divide_row(&mut work[start..end], k);
+    eliminate(work, n, w, k);
+}

@@ -1,0 +1,48 @@
+-- `inversion::reduce_column` meets its contract. Assumes nothing.
+use denote.Ref.{now}
+use borrow.Author.Tests.{not-true, not-false}
+use Rattle.inversion.proofs.Reductions.{has-ended, ends-here, goes-on}
+use borrow.Author.Needs.{needs}
+use Rattle.inversion.proofs.reduce_column.Statement.{statement}
+use Rattle.inversion.proofs.reduce_column.Tie as tie
+
+returns : tie.Need-returns
+returns c = has-ended (c .before .before .args .n) (c .before .before .args .limit) (c .before .before .args .k) (now (c .before .before .args .work)) (c .before .before .args .going) (not-true _ (c .if1 .taken))
+
+mul-w : tie.Need-mul-w
+mul-w c = search needs
+
+pivot-row-requires : tie.Need-pivot-row-requires
+pivot-row-requires c κs = search needs
+
+size-at-requires : tie.Need-size-at-requires
+size-at-requires c κs = search needs
+
+same-length : tie.Need-same-length
+same-length c = search needs
+
+returns-2 : tie.Need-returns-2
+returns-2 c = ends-here (c .before .before .before .before .before .before .before .args .n) (c .before .before .before .before .before .before .before .args .limit) (c .before .before .before .before .before .before .before .args .k) (now (c .before .before .before .before .before .before .before .args .work)) (c .before .before .before .before .before .before .before .args .going) _ _ (not-false _ (c .before .before .before .before .before .if1 .left)) (c .before .before .before .pivot-row .ensures .0) (c .before .size-at .ensures) (c .if2 .taken)
+
+clear-column-requires : tie.Need-clear-column-requires
+clear-column-requires c κs = search needs
+
+same-length-2 : tie.Need-same-length-2
+same-length-2 c = search needs
+
+returns-3 : tie.Need-returns-3
+returns-3 c = goes-on (c .before .before .before .before .before .before .before .before .before .before .before .args .n) (c .before .before .before .before .before .before .before .before .before .before .before .args .limit) (c .before .before .before .before .before .before .before .before .before .before .before .args .k) (now (c .before .before .before .before .before .before .before .before .before .before .before .args .work)) (c .before .before .before .before .before .before .before .before .before .before .before .args .going) _ _ _ (not-false _ (c .before .before .before .before .before .before .before .before .before .if1 .left)) (c .before .before .before .before .before .before .before .pivot-row .ensures .0) (c .before .before .before .before .before .size-at .ensures) (c .before .before .before .before .if2 .left) (c .before .before .clear-column .ensures)
+
+pub reduce-column-spec : {M : Type 1} → statement M
+reduce-column-spec =
+    tie.close
+    (tie.spec
+    returns
+    mul-w
+    pivot-row-requires
+    size-at-requires
+    same-length
+    returns-2
+    clear-column-requires
+    same-length-2
+    returns-3)

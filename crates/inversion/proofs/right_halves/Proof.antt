@@ -1,0 +1,114 @@
+-- `inversion::right_halves` meets its contract. Assumes nothing.
+use Prim.Native.Nat.{ℕ, _≤_, _-_, _+_, _*_}
+use mathlib.Core.Path.{_≡_, refl, ap}
+use native.Mathlib.Nat.{le-refl}
+use native.Mathlib.Omega.{arith}
+use denote.Ref.{now}
+use lib.ListN.{length}
+use Rattle.lists.proofs.Filling.{Filled, fill-end}
+use Rattle.lists.proofs.Parts.{row-fits}
+use Rattle.matrix.proofs.Rows.{rows-none, rows-more}
+use Rattle.elimination.proofs.Lent.{lent-long}
+use Rattle.inversion.specs.Inversion.{rightHalves}
+use Rattle.inversion.proofs.Halves.{rightNumber, right-row}
+use borrow.Author.Needs.{needs}
+use Rattle.inversion.proofs.right_halves.Statement.{statement}
+use Rattle.inversion.proofs.right_halves.Tie as tie
+
+abbrev Inv-loop : tie.InvT-loop
+Inv-loop work n out₀ w i₀ out i = (i ≤ n) × (length out ≡ length out₀) × Filled (rightNumber n work) out₀ (i * n) out
+
+abbrev μ-loop : tie.MeasureT-loop
+μ-loop work n out₀ w i₀ out i = n - i
+
+mul-w : tie.Need-mul-w Inv-loop μ-loop
+mul-w c = search needs
+
+loop-holds : tie.Need-loop-holds Inv-loop μ-loop
+loop-holds c = (search needs, search needs, rows-none _ _ _)
+
+mul-from : tie.Need-mul-from Inv-loop μ-loop
+mul-from c = omega (arith, row-fits (c .before .loop .i) (c .before .before .before .before .args .n) (2 * c .before .before .before .before .args .n) _ (c .loop-test .taken) (le-refl (c .before .before .before .before .args .n * (2 * c .before .before .before .before .args .n))))
+
+add-from : tie.Need-add-from Inv-loop μ-loop
+add-from c = omega (arith, row-fits (c .before .loop .i) (c .before .before .before .before .args .n) (2 * c .before .before .before .before .args .n) _ (c .loop-test .taken) (le-refl (c .before .before .before .before .args .n * (2 * c .before .before .before .before .args .n))))
+
+add-until : tie.Need-add-until Inv-loop μ-loop
+add-until c = omega (arith, row-fits (c .before .loop .i) (c .before .before .before .before .args .n) (2 * c .before .before .before .before .args .n) _ (c .loop-test .taken) (le-refl (c .before .before .before .before .args .n * (2 * c .before .before .before .before .args .n))))
+
+mul-start : tie.Need-mul-start Inv-loop μ-loop
+mul-start c = omega (arith, row-fits (c .before .loop .i) (c .before .before .before .before .args .n) (c .before .before .before .before .args .n) _ (c .loop-test .taken) (le-refl (c .before .before .before .before .args .n * c .before .before .before .before .args .n)))
+
+add-end : tie.Need-add-end Inv-loop μ-loop
+add-end c = omega (arith, row-fits (c .before .loop .i) (c .before .before .before .before .args .n) (c .before .before .before .before .args .n) _ (c .loop-test .taken) (le-refl (c .before .before .before .before .args .n * c .before .before .before .before .args .n)))
+
+mul-put-row : tie.Need-mul-put-row Inv-loop μ-loop
+mul-put-row c = omega (arith, row-fits (c .before .loop .i) (c .before .before .before .before .args .n) (c .before .before .before .before .args .n) _ (c .loop-test .taken) (le-refl (c .before .before .before .before .args .n * c .before .before .before .before .args .n)))
+
+sub-put-row : tie.Need-sub-put-row Inv-loop μ-loop
+sub-put-row c = search needs
+
+part-put-row-start : tie.Need-part-put-row-start Inv-loop μ-loop
+part-put-row-start c = search needs
+
+part-put-row-end : tie.Need-part-put-row-end Inv-loop μ-loop
+part-put-row-end c = omega (arith, row-fits (c .before .loop .i) (c .before .before .before .before .args .n) (c .before .before .before .before .args .n) _ (c .loop-test .taken) (le-refl (c .before .before .before .before .args .n * c .before .before .before .before .args .n)))
+
+mul-put-row-2 : tie.Need-mul-put-row-2 Inv-loop μ-loop
+mul-put-row-2 c = omega (arith, row-fits (c .before .before .loop .i) (c .before .before .before .before .before .args .n) (2 * c .before .before .before .before .before .args .n) _ (c .before .loop-test .taken) (le-refl (c .before .before .before .before .before .args .n * (2 * c .before .before .before .before .before .args .n))))
+
+sub-put-row-2 : tie.Need-sub-put-row-2 Inv-loop μ-loop
+sub-put-row-2 c = search needs
+
+part-put-row-start-2 : tie.Need-part-put-row-start-2 Inv-loop μ-loop
+part-put-row-start-2 c = search needs
+
+part-put-row-end-2 : tie.Need-part-put-row-end-2 Inv-loop μ-loop
+part-put-row-end-2 c = omega (arith, row-fits (c .before .before .loop .i) (c .before .before .before .before .before .args .n) (2 * c .before .before .before .before .before .args .n) _ (c .before .loop-test .taken) (le-refl (c .before .before .before .before .before .args .n * (2 * c .before .before .before .before .before .args .n))))
+
+put-row-requires : tie.Need-put-row-requires Inv-loop μ-loop
+put-row-requires c κs = omega (arith, lent-long (c .before .before .before .loop .i * c .before .before .before .before .before .before .args .n) _ (c .before .before .before .before .before .before .args .n) (c .before .before .before .loop .out) refl (omega (arith, row-fits (c .before .before .before .loop .i) (c .before .before .before .before .before .before .args .n) (c .before .before .before .before .before .before .args .n) _ (c .before .before .loop-test .taken) (le-refl (c .before .before .before .before .before .before .args .n * c .before .before .before .before .before .before .args .n)))), lent-long (c .before .before .before .loop .i * (2 * c .before .before .before .before .before .before .args .n) + c .before .before .before .before .before .before .args .n) _ (c .before .before .before .before .before .before .args .n) (now (c .before .before .before .before .before .before .args .work)) refl (omega (arith, row-fits (c .before .before .before .loop .i) (c .before .before .before .before .before .before .args .n) (2 * c .before .before .before .before .before .before .args .n) _ (c .before .before .loop-test .taken) (le-refl (c .before .before .before .before .before .before .args .n * (2 * c .before .before .before .before .before .before .args .n))))))
+
+add-i : tie.Need-add-i Inv-loop μ-loop
+add-i c = search needs
+
+loop-less : tie.Need-loop-less Inv-loop μ-loop
+loop-less c = search needs
+
+loop-again : tie.Need-loop-again Inv-loop μ-loop
+loop-again c = (search needs, search needs, rows-more _ _ (c .before .before .before .before .before .before .loop .i) (c .before .before .before .before .before .before .before .before .before .args .n) _ (c .before .before .before .before .before .before .loop .out) _ refl (c .before .before .before .before .before .before .loop .inv .2) (right-row (c .before .before .before .before .before .before .before .before .before .args .n) (c .before .before .before .before .before .before .loop .i) _ _ _ (now (c .before .before .before .before .before .before .before .before .before .args .work)) (c .before .before .before .before .before .before .loop .out) _ refl (omega (arith, row-fits (c .before .before .before .before .before .before .loop .i) (c .before .before .before .before .before .before .before .before .before .args .n) (c .before .before .before .before .before .before .before .before .before .args .n) _ (c .before .before .before .before .before .loop-test .taken) (le-refl (c .before .before .before .before .before .before .before .before .before .args .n * c .before .before .before .before .before .before .before .before .before .args .n)))) refl refl (omega (arith, row-fits (c .before .before .before .before .before .before .loop .i) (c .before .before .before .before .before .before .before .before .before .args .n) (2 * c .before .before .before .before .before .before .before .before .before .args .n) _ (c .before .before .before .before .before .loop-test .taken) (le-refl (c .before .before .before .before .before .before .before .before .before .args .n * (2 * c .before .before .before .before .before .before .before .before .before .args .n))))) (c .before .before .put-row .ensures)))
+
+same-length : tie.Need-same-length Inv-loop μ-loop
+same-length c = search needs
+
+returns : tie.Need-returns Inv-loop μ-loop
+unfolding rightHalves
+returns c = fill-end _ _ _ _ _ (ap (λ (i : ℕ). i * c .before .before .before .before .args .n) (omega arith)) (c .before .loop .inv .2)
+
+pub right-halves-spec : {M : Type 1} → statement M
+right-halves-spec =
+    tie.close
+    (tie.spec
+    Inv-loop
+    μ-loop
+    mul-w
+    loop-holds
+    mul-from
+    add-from
+    add-until
+    mul-start
+    add-end
+    mul-put-row
+    sub-put-row
+    part-put-row-start
+    part-put-row-end
+    mul-put-row-2
+    sub-put-row-2
+    part-put-row-start-2
+    part-put-row-end-2
+    put-row-requires
+    add-i
+    loop-less
+    loop-again
+    same-length
+    returns)

@@ -1,0 +1,151 @@
+// The inverse of a real matrix by Gauss-Jordan elimination.
+ghost use mathlib.Core.Path.{_≡_};
+ghost use mathlib.Core.List.{_++_};
+ghost use Prim.Native.Nat.{_+_, _*_, _≤_, _<_};
+ghost use lib.ListN.{length, drop};
+ghost use Rattle.lists.specs.Build.{build, over};
+ghost use Rattle.lists.specs.Fold.{fold};
+ghost use Rattle.inversion.specs.Inversion.{besideAt, besideIdentity, scaleOf, sizeAt, largerRow, pivotRow, rows, columnReduced, reductionIn, rightHalves, invertible, inverseOf};
+
+// The largest size of the first m numbers.
+fn scale_of(a: &[f64], m: usize) -> f64
+    requires { ⌜ m ≤ length (now a) ⌝ }
+    ensures { λ r. ⌜ r ≡ scaleOf m (now (a .entry)) ⌝ }
+{
+    let mut s = 0.0;
+    for k in 0..m {
+        s = numbers::max_of(s, numbers::abs_of(a[k]));
+    }
+    s
+}
+
+// Entry j of row i of the matrix beside the identity.
+fn beside_at(a: &[f64], n: usize, i: usize, j: usize) -> f64
+    requires { ⌜ (n ≤ 16) × (i < n) × (j < 2 * n) × (n * n ≤ length (now a)) ⌝ }
+    ensures { λ r. ⌜ r ≡ besideAt n (now (a .entry)) i j ⌝ }
+{
+    if j < n {
+        return a[i * n + j];
+    }
+    if j == n + i {
+        return 1.0;
+    }
+    0.0
+}
+
+fn beside_row(a: &[f64], n: usize, i: usize, row: &mut [f64])
+    requires { ⌜ (n ≤ 16) × (i < n) × (n * n ≤ length (now a)) × (length (now row) ≡ 2 * n) ⌝ }
+    ensures { λ _. ⌜ now (row .exit) ≡ build (2 * n) (besideAt n (now (a .entry)) i) ⌝ }
+{
+    let w = row.len();
+    for j in 0..w {
+        row[j] = beside_at(a, n, i, j);
+    }
+}
+
+fn beside_identity(a: &[f64], n: usize, work: &mut [f64])
+    requires { ⌜ (n ≤ 16) × (n * n ≤ length (now a)) × (length (now work) ≡ n * (2 * n)) ⌝ }
+    ensures { λ _. ⌜ now (work .exit) ≡ besideIdentity n (now (a .entry)) ⌝ }
+{
+    let w = 2 * n;
+    for i in 0..n {
+        let start = i * w;
+        let end = start + w;
+        beside_row(a, n, i, &mut work[start..end]);
+    }
+}
+
+// The size of entry k of row i.
+fn size_at(work: &[f64], n: usize, w: usize, k: usize, i: usize) -> f64
+    requires { ⌜ (k < w) × (i < n) × (n * w ≤ length (now work)) ⌝ }
+    ensures { λ r. ⌜ r ≡ sizeAt w k (now (work .entry)) i ⌝ }
+{
+    numbers::abs_of(work[i * w + k])
+}
+
+// Of the rows p and i the one with the larger entry k.
+fn larger_row(work: &[f64], n: usize, w: usize, k: usize, p: usize, i: usize) -> usize
+    requires { ⌜ (k < w) × (p < n) × (i < n) × (n * w ≤ length (now work)) ⌝ }
+    ensures { λ r. ⌜ (r ≡ largerRow w k (now (work .entry)) p i) × (r < n) ⌝ }
+{
+    if numbers::comes_before(size_at(work, n, w, k, i), size_at(work, n, w, k, p)) {
+        return p;
+    }
+    i
+}
+
+fn pivot_row(work: &[f64], n: usize, w: usize, k: usize) -> usize
+    requires { ⌜ (k < n) × (k < w) × (n * w ≤ length (now work)) ⌝ }
+    ensures { λ r. ⌜ (r ≡ pivotRow n w k (now (work .entry))) × (r < n) ⌝ }
+{
+    let m = n - k;
+    let mut p = k;
+    for t in 0..m {
+        p = larger_row(work, n, w, k, p, k + t);
+    }
+    p
+}
+
+// Clears column k, unless the reduction has ended or ends here.
+fn reduce_column(work: &mut [f64], n: usize, k: usize, limit: f64, going: bool) -> bool
+    requires { ⌜ (n ≤ 16) × (k < n) × (n * (2 * n) ≤ length (now work)) ⌝ }
+    ensures { λ r. ⌜ reductionIn r (now (work .exit)) ≡ columnReduced n limit k (reductionIn going (now (work .entry))) ⌝ }
+{
+    if !going {
+        return false;
+    }
+    let w = 2 * n;
+    let p = pivot_row(work, n, w, k);
+    if size_at(work, n, w, k, p) <= limit {
+        return false;
+    }
+    elimination::clear_column(work, n, w, k, p);
+    true
+}
+
+fn reduce(a: &[f64], n: usize, limit: f64, work: &mut [f64]) -> bool
+    requires { ⌜ (n ≤ 16) × (n * n ≤ length (now a)) × (length (now work) ≡ n * (2 * n)) ⌝ }
+    ensures { λ r. ⌜ reductionIn r (now (work .exit)) ≡ fold n (columnReduced n limit) (rows (besideIdentity n (now (a .entry)))) ⌝ }
+{
+    beside_identity(a, n, work);
+    let mut going = true;
+    for k in 0..n {
+        going = reduce_column(work, n, k, limit, going);
+    }
+    going
+}
+
+fn right_halves(work: &[f64], n: usize, out: &mut [f64])
+    requires { ⌜ (n ≤ 16) × (n * (2 * n) ≤ length (now work)) × (n * n ≤ length (now out)) ⌝ }
+    ensures { λ _. ⌜ now (out .exit) ≡ rightHalves n (now (work .entry)) ++ drop (n * n) (now (out .entry)) ⌝ }
+{
+    let w = 2 * n;
+    for i in 0..n {
+        let from = i * w + n;
+        let until = from + n;
+        let start = i * n;
+        let end = start + n;
+        elimination::put_row(&mut out[start..end], &work[from..until]);
+    }
+}
+
+// The inverse of the matrix a, by rows, into the first n * n numbers of `out`; a singular matrix leaves `out` as it was. The answer is whether there is one.
+pub fn invert(a: &[f64], n: usize, threshold: f64, work: &mut [f64], out: &mut [f64]) -> bool
+    requires { ⌜ (n ≤ 16) × (n * n ≤ length (now a)) × (n * (2 * n) ≤ length (now work)) × (n * n ≤ length (now out)) ⌝ }
+    ensures { λ r. ⌜ (r ≡ invertible n threshold (now (a .entry))) × (now (out .exit) ≡ over (inverseOf n threshold (now (a .entry))) (now (out .entry))) ⌝ }
+{
+    let scale = scale_of(a, n * n);
+    if scale == 0.0 {
+        return false;
+    }
+    if !numbers::is_finite(scale) {
+        return false;
+    }
+    let size = n * (2 * n);
+    let found = reduce(a, n, threshold * scale, &mut work[..size]);
+    if !found {
+        return false;
+    }
+    right_halves(&work[..size], n, out);
+    true
+}

@@ -1,0 +1,88 @@
+// Products of vectors and matrices that lie by rows in slices of numbers.
+ghost use mathlib.Core.Path.{_≡_};
+ghost use mathlib.Core.List.{_++_};
+ghost use Prim.Native.Nat.{_+_, _*_, _≤_, _<_};
+ghost use lib.ListN.{length, drop};
+ghost use Rattle.lists.specs.Build.{build};
+ghost use Rattle.numbers.specs.Number.{minusZeroF, _+ᶠ_, _*ᶠ_};
+ghost use Rattle.numbers.specs.Slice.{at};
+ghost use Rattle.matrix.specs.Product.{dotOf, matVecOf, rowMatOf, matMulOf};
+
+// a · b, over the entries of a.
+pub fn dot(a: &[f64], b: &[f64]) -> f64
+    requires { ⌜ length (now a) ≤ length (now b) ⌝ }
+    ensures { λ r. ⌜ r ≡ dotOf (length (now (a .entry))) (now (a .entry)) (now (b .entry)) ⌝ }
+{
+    let n = a.len();
+    let mut s = -0.0;
+    for k in 0..n {
+        s = s + a[k] * b[k];
+    }
+    s
+}
+
+// The matrix a times the column x, into the first n numbers of `out`.
+pub fn mat_vec(a: &[f64], x: &[f64], n: usize, out: &mut [f64])
+    requires { ⌜ (n ≤ 16) × (n * n ≤ length (now a)) × (n ≤ length (now x)) × (n ≤ length (now out)) ⌝ }
+    ensures { λ _. ⌜ now (out .exit) ≡ matVecOf n (now (a .entry)) (now (x .entry)) ++ drop n (now (out .entry)) ⌝ }
+{
+    for i in 0..n {
+        let start = i * n;
+        let end = start + n;
+        out[i] = dot(&a[start..end], x);
+    }
+}
+
+// Sets every number of the row to -0, where sums start.
+fn start_row(row: &mut [f64])
+    ensures { λ _. ⌜ now (row .exit) ≡ build (length (now (row .entry))) (λ _. minusZeroF) ⌝ }
+{
+    let n = row.len();
+    for j in 0..n {
+        row[j] = -0.0;
+    }
+}
+
+// Adds f times another row.
+fn add_row(row: &mut [f64], f: f64, other: &[f64])
+    requires { ⌜ length (now row) ≤ length (now other) ⌝ }
+    ensures { λ _. ⌜ now (row .exit) ≡ build (length (now (row .entry))) (λ j. at (now (row .entry)) j +ᶠ f *ᶠ at (now (other .entry)) j) ⌝ }
+{
+    let n = row.len();
+    for j in 0..n {
+        row[j] = row[j] + f * other[j];
+    }
+}
+
+// The rows of a, each times its number of x, added up row by row: for each entry the same sum in the same order.
+fn add_rows(x: &[f64], a: &[f64], n: usize, row: &mut [f64])
+    requires { ⌜ (n ≤ 16) × (n ≤ length (now x)) × (n * n ≤ length (now a)) × (length (now row) ≡ n) ⌝ }
+    ensures { λ _. ⌜ now (row .exit) ≡ rowMatOf n (now (x .entry)) (now (a .entry)) ⌝ }
+{
+    start_row(row);
+    for i in 0..n {
+        let start = i * n;
+        let end = start + n;
+        add_row(row, x[i], &a[start..end]);
+    }
+}
+
+// The row x times the matrix a, into the first n numbers of `out`.
+pub fn row_mat(x: &[f64], a: &[f64], n: usize, out: &mut [f64])
+    requires { ⌜ (n ≤ 16) × (n ≤ length (now x)) × (n * n ≤ length (now a)) × (n ≤ length (now out)) ⌝ }
+    ensures { λ _. ⌜ now (out .exit) ≡ rowMatOf n (now (x .entry)) (now (a .entry)) ++ drop n (now (out .entry)) ⌝ }
+{
+    add_rows(x, a, n, &mut out[..n]);
+}
+
+// The product of the matrices a and b, row by row, into the first n * n numbers of `out`.
+pub fn mat_mul(a: &[f64], b: &[f64], n: usize, out: &mut [f64])
+    requires { ⌜ (n ≤ 16) × (n * n ≤ length (now a)) × (n * n ≤ length (now b)) × (n * n ≤ length (now out)) ⌝ }
+    ensures { λ _. ⌜ now (out .exit) ≡ matMulOf n (now (a .entry)) (now (b .entry)) ++ drop (n * n) (now (out .entry)) ⌝ }
+{
+    for i in 0..n {
+        let start = i * n;
+        let end = start + n;
+        add_rows(&a[start..end], b, n, &mut out[start..end]);
+    }
+}
