@@ -30,6 +30,15 @@ uint64_t mintshuttle_sheet(const uint8_t *card, size_t card_len, uint64_t *resul
 /* What the reader says of a card of any kind: 0, and the card's kind in the answer's word 0; or N, and 0, N, A, B, 0 in the answer. */
 uint64_t mintshuttle_read(const uint8_t *card, size_t card_len, uint64_t *answer, size_t answer_len);
 
+/* The probe design of n qubits, 1 to 3: result gets 4^n rows of 4^n expectations (numbers as words); the answer is 8, 4^n, 0, 0, 0.
+ * Returns 0, or N: 16, or 1 where n is 0 or above 3. Slices as in mintshuttle_sheet. */
+uint64_t mintshuttle_probes(uint64_t n, uint64_t *result, size_t result_len, double *work, size_t work_len, uint64_t *answer, size_t answer_len);
+
+/* Measurement setting `index` of the 3^n of n qubits: result gets the n axes, X 1, Y 2, Z 3; the answer is 9, n, 0, 0, 0.
+ * Returns 0, or N: 16, 1, or 15 with A the index where it is 3^n or more. */
+uint64_t mintshuttle_setting(uint64_t n, uint64_t index, uint64_t *result, size_t result_len, double *work, size_t work_len, uint64_t *answer,
+                             size_t answer_len);
+
 /* The number leaves, on many numbers: out[i] = f(x[i]) for every i below the smaller length, which is returned. The root is IEEE 754's nearest; the
  * logarithm is within 2^-40 of the true one, and within 2^-48 for x from 1/2 to 2. */
 size_t mintshuttle_sqrt_all(const double *x, size_t x_len, double *out, size_t out_len);

@@ -1,13 +1,12 @@
 -- Rows beside the identity, and their right halves. Assumes nothing.
-use mathlib.Core.Path.{_≡_, refl, sym, _∙_, ap}
+use mathlib.Core.Path.{_≡_, sym, _∙_, ap}
 use mathlib.Core.List.{List, _++_}
-use Prim.Native.Nat.{ℕ, _+_, _-_, _*_, _/_, _%_, _≤_, _<_}
+use Prim.Native.Nat.{ℕ, _+_, _-_, _*_, _/_, _%_, _≤_}
 use native.Mathlib.Omega.{arith}
 use lib.ListN.{length, take, drop}
 use lib.Seq.{take-at, take-take}
 use lib.Ieee.{Float, nan}
 use Rattle.lists.specs.Build.{build}
-use Rattle.lists.specs.Part.{part}
 use Rattle.lists.proofs.Filling.{length-build, build-same, build-part}
 use Rattle.lists.proofs.Parts.{row-of, column-of}
 use Rattle.numbers.specs.Slice.{at}

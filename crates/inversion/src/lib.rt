@@ -1,11 +1,12 @@
 // The inverse of a real matrix by Gauss-Jordan elimination.
 ghost use mathlib.Core.Path.{_≡_};
+ghost use mathlib.Core.Bool.{cond};
 ghost use mathlib.Core.List.{_++_};
 ghost use Prim.Native.Nat.{_+_, _*_, _≤_, _<_};
 ghost use lib.ListN.{length, drop};
 ghost use Rattle.lists.specs.Build.{build, over};
 ghost use Rattle.lists.specs.Fold.{fold};
-ghost use Rattle.inversion.specs.Inversion.{besideAt, besideIdentity, scaleOf, sizeAt, largerRow, pivotRow, rows, columnReduced, reductionIn, rightHalves, invertible, inverseOf};
+ghost use Rattle.inversion.specs.Inversion.{besideAt, besideIdentity, scaleOf, sizeAt, pivotRow, rows, columnReduced, reductionIn, rightHalves, invertible, inverseOf};
 
 // The largest size of the first m numbers.
 fn scale_of(a: &[f64], m: usize) -> f64
@@ -33,6 +34,7 @@ fn beside_at(a: &[f64], n: usize, i: usize, j: usize) -> f64
     0.0
 }
 
+// Row i of the matrix beside the identity.
 fn beside_row(a: &[f64], n: usize, i: usize, row: &mut [f64])
     requires { ⌜ (n ≤ 16) × (i < n) × (n * n ≤ length (now a)) × (length (now row) ≡ 2 * n) ⌝ }
     ensures { λ _. ⌜ now (row .exit) ≡ build (2 * n) (besideAt n (now (a .entry)) i) ⌝ }
@@ -43,6 +45,7 @@ fn beside_row(a: &[f64], n: usize, i: usize, row: &mut [f64])
     }
 }
 
+// The matrix beside the identity, row by row: each row is lent as a part of the work slice.
 fn beside_identity(a: &[f64], n: usize, work: &mut [f64])
     requires { ⌜ (n ≤ 16) × (n * n ≤ length (now a)) × (length (now work) ≡ n * (2 * n)) ⌝ }
     ensures { λ _. ⌜ now (work .exit) ≡ besideIdentity n (now (a .entry)) ⌝ }
@@ -63,25 +66,37 @@ fn size_at(work: &[f64], n: usize, w: usize, k: usize, i: usize) -> f64
     numbers::abs_of(work[i * w + k])
 }
 
-// Of the rows p and i the one with the larger entry k.
-fn larger_row(work: &[f64], n: usize, w: usize, k: usize, p: usize, i: usize) -> usize
-    requires { ⌜ (k < w) × (p < n) × (i < n) × (n * w ≤ length (now work)) ⌝ }
-    ensures { λ r. ⌜ (r ≡ largerRow w k (now (work .entry)) p i) × (r < n) ⌝ }
+fn picked_row(keep: bool, p: usize, i: usize) -> usize
+    ensures { λ r. ⌜ r ≡ cond keep p i ⌝ }
 {
-    if numbers::comes_before(size_at(work, n, w, k, i), size_at(work, n, w, k, p)) {
+    if keep {
         return p;
     }
     i
 }
 
+fn picked_size(keep: bool, x: f64, y: f64) -> f64
+    ensures { λ r. ⌜ r ≡ cond keep x y ⌝ }
+{
+    if keep {
+        return x;
+    }
+    y
+}
+
+// The pivot's row in column k. The loop carries the row of the largest entry so far with that entry's size.
 fn pivot_row(work: &[f64], n: usize, w: usize, k: usize) -> usize
     requires { ⌜ (k < n) × (k < w) × (n * w ≤ length (now work)) ⌝ }
     ensures { λ r. ⌜ (r ≡ pivotRow n w k (now (work .entry))) × (r < n) ⌝ }
 {
     let m = n - k;
     let mut p = k;
+    let mut size = size_at(work, n, w, k, k);
     for t in 0..m {
-        p = larger_row(work, n, w, k, p, k + t);
+        let x = size_at(work, n, w, k, k + t);
+        let keep = numbers::comes_before(x, size);
+        p = picked_row(keep, p, k + t);
+        size = picked_size(keep, size, x);
     }
     p
 }
@@ -103,6 +118,7 @@ fn reduce_column(work: &mut [f64], n: usize, k: usize, limit: f64, going: bool) 
     true
 }
 
+// Column after column, on to the last also where the reduction has ended: `going` says so.
 fn reduce(a: &[f64], n: usize, limit: f64, work: &mut [f64]) -> bool
     requires { ⌜ (n ≤ 16) × (n * n ≤ length (now a)) × (length (now work) ≡ n * (2 * n)) ⌝ }
     ensures { λ r. ⌜ reductionIn r (now (work .exit)) ≡ fold n (columnReduced n limit) (rows (besideIdentity n (now (a .entry)))) ⌝ }
@@ -115,6 +131,7 @@ fn reduce(a: &[f64], n: usize, limit: f64, work: &mut [f64]) -> bool
     going
 }
 
+// The right half of each row.
 fn right_halves(work: &[f64], n: usize, out: &mut [f64])
     requires { ⌜ (n ≤ 16) × (n * (2 * n) ≤ length (now work)) × (n * n ≤ length (now out)) ⌝ }
     ensures { λ _. ⌜ now (out .exit) ≡ rightHalves n (now (work .entry)) ++ drop (n * n) (now (out .entry)) ⌝ }

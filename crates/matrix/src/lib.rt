@@ -1,7 +1,7 @@
 // Products of vectors and matrices that lie by rows in slices of numbers.
 ghost use mathlib.Core.Path.{_≡_};
 ghost use mathlib.Core.List.{_++_};
-ghost use Prim.Native.Nat.{_+_, _*_, _≤_, _<_};
+ghost use Prim.Native.Nat.{_+_, _*_, _≤_};
 ghost use lib.ListN.{length, drop};
 ghost use Rattle.lists.specs.Build.{build};
 ghost use Rattle.numbers.specs.Number.{minusZeroF, _+ᶠ_, _*ᶠ_};

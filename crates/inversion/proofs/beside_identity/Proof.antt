@@ -8,7 +8,7 @@ use lib.ListN.{length}
 use Rattle.lists.specs.Build.{build}
 use Rattle.lists.proofs.Filling.{Filled, fill-all}
 use Rattle.lists.proofs.Parts.{row-fits}
-use Rattle.matrix.proofs.Rows.{rows-none, rows-more}
+use Rattle.lists.proofs.Rows.{rows-none, rows-more}
 use Rattle.elimination.proofs.Lent.{lent-long}
 use Rattle.inversion.specs.Inversion.{besideIdentity}
 use Rattle.inversion.proofs.Halves.{besideNumber, beside-row}

@@ -2,30 +2,47 @@
 use Prim.Native.Nat.{_≤_, _-_, _+_, _<_}
 use mathlib.Core.Path.{_≡_}
 use native.Mathlib.Omega.{arith}
+use denote.Ref.{now}
 use Rattle.lists.specs.Fold.{fold}
 use Rattle.lists.proofs.Folding.{fold-none, fold-more, fold-end}
-use Rattle.inversion.specs.Inversion.{largerRow, pivotRow}
+use Rattle.inversion.specs.Inversion.{sizeAt, largerRow, pivotRow}
+use Rattle.inversion.proofs.Pivots.{row-picked, size-picked, either-below}
 use borrow.Author.Needs.{needs}
 use Rattle.inversion.proofs.pivot_row.Statement.{statement}
 use Rattle.inversion.proofs.pivot_row.Tie as tie
 
 abbrev Inv-loop : tie.InvT-loop
-Inv-loop work n w k m p₀ t₀ p t = (t ≤ m) × (p < n) × (p ≡ fold t (λ t p. largerRow w k work p (k + t)) k)
+Inv-loop work n w k m p₀ size₀ t₀ p size t = (t ≤ m) × (p < n) × (size ≡ sizeAt w k work p) × (p ≡ fold t (λ t p. largerRow w k work p (k + t)) k)
 
 abbrev μ-loop : tie.MeasureT-loop
-μ-loop work n w k m p₀ t₀ p t = m - t
+μ-loop work n w k m p₀ size₀ t₀ p size t = m - t
 
 sub-m : tie.Need-sub-m Inv-loop μ-loop
 sub-m c = search needs
 
+size-at-requires : tie.Need-size-at-requires Inv-loop μ-loop
+size-at-requires c κs = search needs
+
 loop-holds : tie.Need-loop-holds Inv-loop μ-loop
-loop-holds c = (search needs, search needs, fold-none _ _)
+loop-holds c = (search needs, search needs, c .size-at .ensures, fold-none _ _)
 
-add-larger-row : tie.Need-add-larger-row Inv-loop μ-loop
-add-larger-row c = search needs
+add-size-at : tie.Need-add-size-at Inv-loop μ-loop
+add-size-at c = search needs
 
-larger-row-requires : tie.Need-larger-row-requires Inv-loop μ-loop
-larger-row-requires c κs = search needs
+size-at-requires-2 : tie.Need-size-at-requires-2 Inv-loop μ-loop
+size-at-requires-2 c κs = search needs
+
+comes-before-requires : tie.Need-comes-before-requires Inv-loop μ-loop
+comes-before-requires c κs = search needs
+
+add-picked-row : tie.Need-add-picked-row Inv-loop μ-loop
+add-picked-row c = search needs
+
+picked-row-requires : tie.Need-picked-row-requires Inv-loop μ-loop
+picked-row-requires c κs = search needs
+
+picked-size-requires : tie.Need-picked-size-requires Inv-loop μ-loop
+picked-size-requires c κs = search needs
 
 add-t : tie.Need-add-t Inv-loop μ-loop
 add-t c = search needs
@@ -34,11 +51,11 @@ loop-less : tie.Need-loop-less Inv-loop μ-loop
 loop-less c = search needs
 
 loop-again : tie.Need-loop-again Inv-loop μ-loop
-loop-again c = (search needs, c .larger-row .ensures .1, fold-more _ _ _ _ _ (c .before .before .loop .inv .2) (c .larger-row .ensures .0))
+loop-again c = (search needs, either-below _ (c .before .before .before .before .before .loop .p) (c .before .before .before .before .before .before .before .before .args .k + c .before .before .before .before .before .loop .t) (c .before .before .comes-before .result) _ (c .before .before .before .before .before .loop .inv .1) (omega arith) (c .before .picked-row .ensures), size-picked (c .before .before .before .before .before .before .before .before .args .w) (c .before .before .before .before .before .before .before .before .args .k) (now (c .before .before .before .before .before .before .before .before .args .work)) (c .before .before .before .before .before .loop .p) (c .before .before .before .before .before .before .before .before .args .k + c .before .before .before .before .before .loop .t) _ _ (c .before .before .comes-before .result) _ _ (c .before .before .before .before .before .loop .inv .2) (c .before .before .before .size-at2 .ensures) (c .before .picked-row .ensures) (c .picked-size .ensures), fold-more _ _ _ _ _ (c .before .before .before .before .before .loop .inv .3) (row-picked (c .before .before .before .before .before .before .before .before .args .w) (c .before .before .before .before .before .before .before .before .args .k) (now (c .before .before .before .before .before .before .before .before .args .work)) (c .before .before .before .before .before .loop .p) (c .before .before .before .before .before .before .before .before .args .k + c .before .before .before .before .before .loop .t) _ _ (c .before .before .comes-before .result) _ (c .before .before .before .before .before .loop .inv .2) (c .before .before .before .size-at2 .ensures) (c .before .before .comes-before .ensures) (c .before .picked-row .ensures)))
 
 returns : tie.Need-returns Inv-loop μ-loop
 unfolding pivotRow
-returns c = (fold-end _ _ _ _ _ (omega arith) (c .before .loop .inv .2), c .before .loop .inv .1)
+returns c = (fold-end _ _ _ _ _ (omega arith) (c .before .loop .inv .3), c .before .loop .inv .1)
 
 pub pivot-row-spec : {M : Type 1} → statement M
 pivot-row-spec =
@@ -47,9 +64,14 @@ pivot-row-spec =
     Inv-loop
     μ-loop
     sub-m
+    size-at-requires
     loop-holds
-    add-larger-row
-    larger-row-requires
+    add-size-at
+    size-at-requires-2
+    comes-before-requires
+    add-picked-row
+    picked-row-requires
+    picked-size-requires
     add-t
     loop-less
     loop-again

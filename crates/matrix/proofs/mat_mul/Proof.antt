@@ -8,7 +8,7 @@ use Rattle.lists.proofs.Filling.{Filled, fill-end}
 use Rattle.lists.proofs.Parts.{row-fits}
 use Rattle.matrix.specs.Product.{matMulOf}
 use Rattle.matrix.proofs.Sums.{row-long, productAt, product-row}
-use Rattle.matrix.proofs.Rows.{rows-none, rows-more}
+use Rattle.lists.proofs.Rows.{rows-none, rows-more}
 use borrow.Author.Needs.{needs}
 use Rattle.matrix.proofs.mat_mul.Statement.{statement}
 use Rattle.matrix.proofs.mat_mul.Tie as tie
