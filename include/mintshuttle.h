@@ -40,7 +40,7 @@ uint64_t mintshuttle_setting(uint64_t n, uint64_t index, uint64_t *result, size_
                              size_t answer_len);
 
 /* The number leaves, on many numbers: out[i] = f(x[i]) for every i below the smaller length, which is returned. The root is IEEE 754's nearest; the
- * logarithm is within 2^-40 of the true one, and within 2^-48 for x from 1/2 to 2. */
+ * logarithm's error is below 2^-40, and below 2^-48 for x from 1/2 to 2 (docs/PROMISES.md says against what). */
 size_t mintshuttle_sqrt_all(const double *x, size_t x_len, double *out, size_t out_len);
 size_t mintshuttle_ln_all(const double *x, size_t x_len, double *out, size_t out_len);
 
