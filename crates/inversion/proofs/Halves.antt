@@ -2,6 +2,7 @@
 use mathlib.Core.Path.{_≡_, sym, _∙_, ap}
 use mathlib.Core.List.{List, _++_}
 use Prim.Native.Nat.{ℕ, _+_, _-_, _*_, _/_, _%_, _≤_}
+use native.Mathlib.Nat.{mul-le-mul, mul-left-comm}
 use native.Mathlib.Omega.{arith}
 use lib.ListN.{length, take, drop}
 use lib.Seq.{take-at, take-take}
@@ -46,3 +47,7 @@ length-right n l = length-build (n * n) _
 -- the front that was lent, lent once more
 pub front-again : (y rest : List Float) (size : ℕ) → length y ≡ size → size ≤ length (take size (y ++ rest))
 front-again y rest size e = omega (arith, e, ap length (take-at y rest size e))
+
+-- room for 16 rows beside the identity's is room for fewer
+pub rows-most : (n : ℕ) → n ≤ 16 → n * (2 * n) ≤ 512
+rows-most n h = omega (arith, mul-left-comm n 2 n, mul-le-mul h h)

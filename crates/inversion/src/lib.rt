@@ -146,8 +146,8 @@ fn right_halves(work: &[f64], n: usize, out: &mut [f64])
     }
 }
 
-// The inverse of the matrix a, by rows, into the first n * n numbers of `out`; a singular matrix leaves `out` as it was. The answer is whether there is one.
-pub fn invert(a: &[f64], n: usize, threshold: f64, work: &mut [f64], out: &mut [f64]) -> bool
+// The same as `invert`, in the room for the rows that it is lent.
+fn invert_within(a: &[f64], n: usize, threshold: f64, work: &mut [f64], out: &mut [f64]) -> bool
     requires { ⌜ (n ≤ 16) × (n * n ≤ length (now a)) × (n * (2 * n) ≤ length (now work)) × (n * n ≤ length (now out)) ⌝ }
     ensures { λ r. ⌜ (r ≡ invertible n threshold (now (a .entry))) × (now (out .exit) ≡ over (inverseOf n threshold (now (a .entry))) (now (out .entry))) ⌝ }
 {
@@ -165,4 +165,20 @@ pub fn invert(a: &[f64], n: usize, threshold: f64, work: &mut [f64], out: &mut [
     }
     right_halves(&work[..size], n, out);
     true
+}
+
+// Room for the rows of 16 by 16, each beside the identity's.
+fn reduction_room() -> [f64; 512]
+    ensures { λ r. ⌜ 512 ≡ length r ⌝ }
+{
+    [0.0; 512]
+}
+
+// The inverse of the matrix a, by rows, into the first n * n numbers of `out`; a singular matrix leaves `out` as it was. The answer is whether there is one.
+pub fn invert(a: &[f64], n: usize, threshold: f64, out: &mut [f64]) -> bool
+    requires { ⌜ (n ≤ 16) × (n * n ≤ length (now a)) × (n * n ≤ length (now out)) ⌝ }
+    ensures { λ r. ⌜ (r ≡ invertible n threshold (now (a .entry))) × (now (out .exit) ≡ over (inverseOf n threshold (now (a .entry))) (now (out .entry))) ⌝ }
+{
+    let mut work = reduction_room();
+    invert_within(a, n, threshold, &mut work, out)
 }

@@ -2,7 +2,7 @@
 use Prim.Native.Nat.{ℕ, _+_, _*_, _/_, _%_, _≤_, _<_}
 use mathlib.Core.Path.{_≡_, refl, sym, ap, ap₂, _∙_}
 use mathlib.Core.List.{List, _++_}
-use native.Mathlib.Nat.{mul-assoc, mul-le-mul, mul-left-comm}
+use native.Mathlib.Nat.{mul-assoc, mul-le-mul}
 use native.Mathlib.Omega.{arith}
 use lib.ListN.{length, take, drop, length-append}
 use lib.Ieee.{Float}
@@ -66,7 +66,3 @@ module _ (s : List ℕ) (from p m : ℕ) (a l : List Float) (e : m ≡ p * p) (f
 
   pub length-filled : length (take m a) ≡ p * p
   length-filled = ap length (filled s from p m a l e f) ∙ length-columns s from p
-
--- a matrix beside another one
-pub double-most : (p : ℕ) → p ≤ 16 → p * (2 * p) ≤ 512
-double-most p h = omega (arith, mul-left-comm p 2 p, square-most p h)

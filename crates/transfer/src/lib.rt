@@ -81,17 +81,11 @@ fn columns(card: &[u8], from: usize, p: usize, out: &mut [f64])
     }
 }
 
-// Room for a matrix of 16 by 16, and for one beside the identity.
+// Room for a matrix of 16 by 16.
 fn matrix_room() -> [f64; 256]
     ensures { λ r. ⌜ 256 ≡ length r ⌝ }
 {
     [0.0; 256]
-}
-
-fn reduction_room() -> [f64; 512]
-    ensures { λ r. ⌜ 512 ≡ length r ⌝ }
-{
-    [0.0; 512]
 }
 
 // The inverse of the inputs, where there is one.
@@ -101,9 +95,8 @@ fn invert_inputs(card: &[u8], tolerance: f64, p: usize, inverse: &mut [f64]) -> 
 {
     let m = card_places::square(p);
     let mut inputs = matrix_room();
-    let mut work = reduction_room();
     columns(card, 2, p, &mut inputs);
-    inversion::invert(&inputs[..m], p, tolerance, &mut work, inverse)
+    inversion::invert(&inputs[..m], p, tolerance, inverse)
 }
 
 // The outputs times the inverse.

@@ -1,94 +1,31 @@
 -- `inversion::invert` meets its contract. Assumes nothing.
-use Rattle.inversion.proofs.Halves.{front-again}
-use Rattle.inversion.proofs.Reductions.{none-found, one-found}
-use mathlib.Core.Path.{ap, sym, _∙_}
-use mathlib.Core.Bool.{not}
-use denote.Ref.{now}
-use lib.Seq.{length-take-le}
-use lib.Ieee.{ofBits}
-use borrow.Author.Tests.{not-true, not-false}
-use Rattle.inversion.proofs.Reductions.{all-zero, not-finite, all-reduced, no-inverse}
+use Rattle.inversion.proofs.Halves.{rows-most}
+use native.Mathlib.Omega.{arith}
 use borrow.Author.Needs.{needs}
 use Rattle.inversion.proofs.invert.Statement.{statement}
 use Rattle.inversion.proofs.invert.Tie as tie
 
-mul-scale-of : tie.Need-mul-scale-of
-mul-scale-of c = search needs
+reduction-room-requires : tie.Need-reduction-room-requires
+reduction-room-requires c κs = search needs
 
-scale-of-requires : tie.Need-scale-of-requires
-scale-of-requires c κs = search needs
+slice-aggregate-invert-within : tie.Need-slice-aggregate-invert-within
+slice-aggregate-invert-within c = search needs
 
-returns : tie.Need-returns
-unfolding ofBits
-returns c = no-inverse (c .before .before .before .before .before .args .n) (c .before .before .before .before .before .args .threshold) (now (c .before .before .before .before .before .args .a)) (now (c .before .before .before .before .before .args .out)) (all-zero _ _ _ _ (c .before .scale-of .ensures) (c .if1 .taken))
-
-is-finite-requires : tie.Need-is-finite-requires
-is-finite-requires c κs = search needs
-
-returns-2 : tie.Need-returns-2
-unfolding ofBits
-returns-2 c = no-inverse (c .before .before .before .before .before .before .before .args .n) (c .before .before .before .before .before .before .before .args .threshold) (now (c .before .before .before .before .before .before .before .args .a)) (now (c .before .before .before .before .before .before .before .args .out)) (not-finite _ _ _ _ (c .before .before .before .scale-of .ensures) (c .before .before .if1 .left) (sym (ap not (c .before .is-finite .ensures)) ∙ c .if2 .taken))
-
-mul-size : tie.Need-mul-size
-mul-size c = search needs
-
-mul-size-2 : tie.Need-mul-size-2
-mul-size-2 c = search needs
-
-slice-relend-prefix-reduce : tie.Need-slice-relend-prefix-reduce
-slice-relend-prefix-reduce c = search needs
-
-slice-aggregate-reduce : tie.Need-slice-aggregate-reduce
-slice-aggregate-reduce c = sym (length-take-le _ _ (search needs))
-
-reduce-requires : tie.Need-reduce-requires
-reduce-requires c κs = (search needs, search needs, length-take-le _ _ (search needs))
+invert-within-requires : tie.Need-invert-within-requires
+invert-within-requires c κs = (search needs, search needs, omega (arith, rows-most (c .before .before .before .before .before .args .n) (c .before .before .before .before .before .pre .0), c .before .before .reduction-room .ensures), search needs)
 
 same-length : tie.Need-same-length
 same-length c = search needs
 
-returns-3 : tie.Need-returns-3
-unfolding ofBits
-returns-3 c = none-found (c .before .before .before .before .before .before .before .before .before .before .before .before .args .n) (c .before .before .before .before .before .before .before .before .before .before .before .before .args .threshold) (now (c .before .before .before .before .before .before .before .before .before .before .before .before .args .a)) (c .before .before .before .reduce .result) (c .before .before .before .reduce .last .1 .1 .1 .0) (now (c .before .before .before .before .before .before .before .before .before .before .before .before .args .out)) (not-true _ (c .if3 .taken)) (all-reduced _ (c .before .before .before .before .before .before .before .before .before .before .before .before .args .threshold) _ _ (c .before .before .before .before .before .before .before .before .scale-of .ensures) _ (c .before .before .before .before .before .before .before .if1 .left) (sym (ap not (c .before .before .before .before .before .before .is-finite .ensures)) ∙ c .before .before .before .before .before .if2 .left) (c .before .before .before .reduce .ensures))
-
-slice-reshare-prefix-right-halves : tie.Need-slice-reshare-prefix-right-halves
-slice-reshare-prefix-right-halves c = search needs
-
-slice-aggregate-right-halves : tie.Need-slice-aggregate-right-halves
-slice-aggregate-right-halves c = sym (length-take-le _ _ (search needs))
-
-right-halves-requires : tie.Need-right-halves-requires
-right-halves-requires c κs = (search needs, front-again (c .before .before .before .before .before .reduce .last .1 .1 .1 .0) _ _ (c .before .before .before .before .before .reduce .kept .1 .1 .1 .0 ∙ length-take-le _ _ (c .before .before .before .before .before .before .before .before .before .before .before .before .before .before .pre .2)), search needs)
-
-same-length-2 : tie.Need-same-length-2
-same-length-2 c = search needs
-
-same-length-3 : tie.Need-same-length-3
-same-length-3 c = search needs
-
-returns-4 : tie.Need-returns-4
-unfolding ofBits
-returns-4 c = one-found (c .before .before .before .before .before .before .before .before .before .before .before .before .before .before .before .before .before .args .n) (c .before .before .before .before .before .before .before .before .before .before .before .before .before .before .before .before .before .args .threshold) (now (c .before .before .before .before .before .before .before .before .before .before .before .before .before .before .before .before .before .args .a)) (c .before .before .before .before .before .before .before .before .reduce .result) (c .before .before .before .before .before .before .before .before .reduce .last .1 .1 .1 .0) _ (now (c .before .before .before .before .before .before .before .before .before .before .before .before .before .before .before .before .before .args .out)) _ _ (not-false _ (c .before .before .before .before .before .if3 .left)) (c .before .before .before .before .before .before .before .before .reduce .kept .1 .1 .1 .0 ∙ length-take-le _ _ (c .before .before .before .before .before .before .before .before .before .before .before .before .before .before .before .before .before .pre .2)) (all-reduced _ (c .before .before .before .before .before .before .before .before .before .before .before .before .before .before .before .before .before .args .threshold) _ _ (c .before .before .before .before .before .before .before .before .before .before .before .before .before .scale-of .ensures) _ (c .before .before .before .before .before .before .before .before .before .before .before .before .if1 .left) (sym (ap not (c .before .before .before .before .before .before .before .before .before .before .before .is-finite .ensures)) ∙ c .before .before .before .before .before .before .before .before .before .before .if2 .left) (c .before .before .before .before .before .before .before .before .reduce .ensures)) (c .before .before .right-halves .ensures)
+returns : tie.Need-returns
+returns c = search needs
 
 pub invert-spec : {M : Type 1} → statement M
 invert-spec =
     tie.close
     (tie.spec
-    mul-scale-of
-    scale-of-requires
-    returns
-    is-finite-requires
-    returns-2
-    mul-size
-    mul-size-2
-    slice-relend-prefix-reduce
-    slice-aggregate-reduce
-    reduce-requires
+    reduction-room-requires
+    slice-aggregate-invert-within
+    invert-within-requires
     same-length
-    returns-3
-    slice-reshare-prefix-right-halves
-    slice-aggregate-right-halves
-    right-halves-requires
-    same-length-2
-    same-length-3
-    returns-4)
+    returns)
