@@ -1,5 +1,6 @@
 //! The cards that are timed, each of an ordinary job of its kind.
 
+use reference::library::Call;
 use reference::makers::fixed::{self, Parts};
 use reference::random::Rng;
 use reference::tomography::product_probe_expectations;
@@ -47,8 +48,22 @@ pub fn cards() -> Vec<(&'static str, Vec<u64>)> {
         *x = 0.1 * rng.signed() + if k % 5 == 0 { 1.0 } else { 0.0 };
     }
     list.push(("one-qubit gates", fixed::gauge(&model, &transform)));
+    let large = fixed::model_of_size(16, 4, 8, &mut rng);
+    let mut transform = fixed::diagonal(&[1.0; 16]);
+    transform.iter_mut().for_each(|x| *x += 0.1 * rng.signed());
+    list.push(("d 16, 8 gates, 4 effects", fixed::gauge(&large, &transform)));
     list.push(("one-qubit gates, 60 records", fixed::diagnostics(1e-9, &model, &records)));
     list
+}
+
+/// The library calls that are timed: the largest of each entry that computes.
+pub fn calls() -> Vec<(&'static str, Call)> {
+    let mut rng = Rng::new(2);
+    let mut numbers = |count: usize| (0..count).map(|_| rng.signed()).collect();
+    vec![
+        ("3 qubits", Call::Probes { n: 3 }),
+        ("2 qubits", Call::Apply { n: 2, values: numbers(256), input: numbers(16) }),
+    ]
 }
 
 /// Idle, a quarter turn about X and one about Y, all a little damped.

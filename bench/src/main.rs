@@ -1,4 +1,5 @@
-//! The port and the Rust on the same cards, in one process: `bench [ROUNDS [KIND..]]`. KIND is 1 to 7, `sqrt` or `ln`.
+//! The port and the Rust on the same cards and calls, in one process: `bench [ROUNDS [KIND..]]`. KIND is 1 to 7, `probes`,
+//! `apply`, `sqrt` or `ln`.
 //!
 //! A round runs a batch of each in turn, so that a slower or faster stretch of the machine meets all of them. The median
 //! over the rounds is printed.
@@ -7,13 +8,14 @@ mod cards;
 
 use reference::card::{self, Job};
 use reference::hooks::with_rotations;
+use reference::library::Call;
 use reference::ln::ln;
 use reference::port::{self, ANSWER_WORDS, RESULT_WORDS, WORK_WORDS};
 use reference::random::Rng;
 use reference::sheet::{self, Outcome};
 use reference::tomography::{
-    linear_inversion, process_linear_inversion, project_density_with_tolerance, reconstruct_gate_set, Complex64,
-    Operator, PauliTransferMatrix,
+    linear_inversion, process_linear_inversion, product_probe_expectations, project_density_with_tolerance,
+    reconstruct_gate_set, Complex64, LocalPauliPlan, Operator, PauliTransferMatrix,
 };
 use reference::BUILT;
 use std::hint::black_box;
@@ -23,7 +25,7 @@ use std::time::Instant;
 const BATCH_NS: f64 = 1e6;
 /// Length of the arrays of `sqrt` and `ln`.
 const NUMBERS: usize = 4096;
-const USAGE: &str = "bench [ROUNDS [1..7 | sqrt | ln]..]";
+const USAGE: &str = "bench [ROUNDS [1..7 | probes | apply | sqrt | ln]..]";
 /// What is timed, with the name that is printed.
 type Run = (&'static str, Box<dyn FnMut()>);
 
@@ -78,26 +80,66 @@ fn rust_alone(job: Job) -> Box<dyn FnMut()> {
     }
 }
 
-/// The port's entry with its slices. Every call clears the whole work slice; that is part of its time.
-fn port_call(bytes: Vec<u8>) -> Box<dyn FnMut()> {
-    let (mut result, mut work, mut answer) =
-        (vec![0; RESULT_WORDS], vec![0; WORK_WORDS], vec![0; ANSWER_WORDS]);
+/// The Rust's function of a library call alone, its arguments built before the clock starts.
+fn rust_call_alone(call: Call) -> Box<dyn FnMut()> {
+    match call {
+        Call::Probes { n } => Box::new(move || {
+            black_box(product_probe_expectations(black_box(n as usize))).unwrap();
+        }),
+        Call::Setting { n, .. } => Box::new(move || {
+            black_box(LocalPauliPlan::complete(black_box(n as usize))).unwrap();
+        }),
+        Call::Apply { n, values, input } => {
+            let transfer = PauliTransferMatrix::try_new(n as usize, values).unwrap();
+            Box::new(move || {
+                black_box(black_box(&transfer).apply_expectations(black_box(&input))).unwrap();
+            })
+        }
+    }
+}
+
+/// What the port writes to. Every call clears the whole work slice; that is part of its time.
+struct Lent {
+    result: Vec<u64>,
+    work: Vec<u64>,
+    answer: Vec<u64>,
+}
+
+impl Lent {
+    fn new() -> Self {
+        Lent { result: vec![0; RESULT_WORDS], work: vec![0; WORK_WORDS], answer: vec![0; ANSWER_WORDS] }
+    }
+
+    fn sheet(&mut self, bytes: &[u8]) -> u64 {
+        port::sheet(bytes, &mut self.result, &mut self.work, &mut self.answer)
+    }
+
+    fn call(&mut self, call: &Call) -> u64 {
+        port::call(call, &mut self.result, &mut self.work, &mut self.answer)
+    }
+
+    /// A time without a check of the result would be worth nothing.
+    fn check(&self, outcome: Outcome) {
+        assert_eq!(self.answer, outcome.answer(), "the port answers as the Rust does");
+        match outcome {
+            Outcome::Accepted { words, .. } => assert!(self.result.starts_with(&words), "the port's words are the Rust's"),
+            Outcome::Refused(refusal) => panic!("refused: {refusal:?}"),
+        }
+    }
+}
+
+fn port_sheet(bytes: Vec<u8>) -> Box<dyn FnMut()> {
+    let mut lent = Lent::new();
     Box::new(move || {
-        black_box(port::sheet(black_box(&bytes), &mut result, &mut work, &mut answer));
+        black_box(lent.sheet(black_box(&bytes)));
     })
 }
 
-/// A time without a check of the result would be worth nothing.
-fn check_agreement(bytes: &[u8]) {
-    let (mut result, mut work, mut answer) =
-        (vec![0; RESULT_WORDS], vec![0; WORK_WORDS], vec![0; ANSWER_WORDS]);
-    port::sheet(bytes, &mut result, &mut work, &mut answer);
-    let outcome = sheet::outcome(bytes);
-    assert_eq!(answer, outcome.answer(), "the port answers as the Rust does");
-    match outcome {
-        Outcome::Accepted { words, .. } => assert!(result.starts_with(&words), "the port's words are the Rust's"),
-        Outcome::Refused(refusal) => panic!("the card is refused: {refusal:?}"),
-    }
+fn port_call(call: Call) -> Box<dyn FnMut()> {
+    let mut lent = Lent::new();
+    Box::new(move || {
+        black_box(lent.call(black_box(&call)));
+    })
 }
 
 fn batch_ns(f: &mut dyn FnMut(), calls: u64) -> f64 {
@@ -134,27 +176,51 @@ fn medians(runs: &mut [Run], rounds: usize) -> Vec<f64> {
     times.into_iter().map(median).collect()
 }
 
+/// Times the runs, the port's first, and prints how often the port's time goes into that of the next two.
+fn report(title: String, mut runs: Vec<Run>, rounds: usize) {
+    let medians = medians(&mut runs, rounds);
+    println!("{title} ({rounds} rounds, median ns a call)");
+    for ((label, _), ns) in runs.iter().zip(&medians) {
+        println!("  {label:36} {ns:12.1}");
+    }
+    println!("  Rust alone / port                    {:12.2}", medians[1] / medians[0]);
+    println!("  Rust to words / port                 {:12.2}", medians[2] / medians[0]);
+}
+
 fn card(name: &str, kind: u8, words: &[u64], rounds: usize) {
     let bytes = card::bytes_of(words);
-    check_agreement(&bytes);
+    let mut lent = Lent::new();
+    lent.sheet(&bytes);
+    lent.check(sheet::outcome(&bytes));
     let job = card::read(&bytes).expect("the card is accepted");
     let whole = bytes.clone();
-    let mut runs: Vec<Run> = vec![
-        ("port, card to result", port_call(bytes)),
+    let runs: Vec<Run> = vec![
+        ("port, card to result", port_sheet(bytes)),
         ("Rust function alone, values parsed", rust_alone(job)),
         ("Rust, card to result words", Box::new(move || {
             black_box(sheet::outcome(black_box(&whole)));
         })),
         // An unknown kind is refused at once: what remains is the call and clearing work.
-        ("port, refused at word 0", port_call(vec![0; 8])),
+        ("port, refused at word 0", port_sheet(vec![0; 8])),
     ];
-    let medians = medians(&mut runs, rounds);
-    println!("kind {kind}, {name} ({rounds} rounds, median ns a call)");
-    for ((label, _), ns) in runs.iter().zip(&medians) {
-        println!("  {label:36} {ns:12.1}");
-    }
-    println!("  Rust alone / port                    {:12.2}", medians[1] / medians[0]);
-    println!("  Rust card to words / port            {:12.2}", medians[2] / medians[0]);
+    report(format!("kind {kind}, {name}"), runs, rounds);
+}
+
+fn library_call(name: &str, call: Call, rounds: usize) {
+    let mut lent = Lent::new();
+    lent.call(&call);
+    lent.check(call.outcome());
+    let (timed, whole) = (call.clone(), call.clone());
+    let title = format!("{}, {name}", call.entry().0);
+    let runs: Vec<Run> = vec![
+        ("port, arguments to result", port_call(timed)),
+        ("Rust function alone", rust_call_alone(call)),
+        ("Rust, arguments to result words", Box::new(move || {
+            black_box(black_box(&whole).outcome());
+        })),
+        ("port, refused by its qubits", port_call(Call::Probes { n: 0 })),
+    ];
+    report(title, runs, rounds);
 }
 
 /// Positive numbers from 2^-64 to 2^64, every exponent and all digits alike.
@@ -207,13 +273,19 @@ fn main() {
     let rounds: usize = arguments.first().map_or(201, |rounds| rounds.parse().expect(USAGE));
     assert!(rounds > 0, "{USAGE}");
     let asked = arguments.get(1..).unwrap_or_default();
-    let known = ["1", "2", "3", "4", "5", "6", "7", "sqrt", "ln"];
+    let known = ["1", "2", "3", "4", "5", "6", "7", "probes", "apply", "sqrt", "ln"];
     assert!(asked.iter().all(|kind| known.contains(&kind.as_str())), "{USAGE}");
     let wanted = |kind: &str| asked.is_empty() || asked.iter().any(|name| name == kind);
     for (name, words) in cards::cards() {
         let kind = card::Head::of(words[0]).kind;
         if BUILT.contains(&kind) && wanted(&kind.to_string()) {
             card(name, kind, &words, rounds);
+        }
+    }
+    for (name, call) in cards::calls() {
+        let entry = call.entry().0;
+        if port::ENTRIES.contains(&entry) && wanted(entry) {
+            library_call(name, call, rounds);
         }
     }
     if wanted("sqrt") {

@@ -219,7 +219,7 @@ fn lowest_fault(bytes: &[u8], words: &[u64]) -> Option<usize> {
     if bytes.len() > 8 * MOST_WORDS {
         places.push(MOST_WORDS);
     }
-    if bytes.len() % 8 != 0 {
+    if !bytes.len().is_multiple_of(8) {
         places.push(bytes.len() / 8);
     }
     if let Some(&first) = words.first() {

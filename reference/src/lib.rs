@@ -1,9 +1,11 @@
 //! The Rust as the oracle of the port: the original functions with document 01's stand-ins, a reader of cards and a
-//! printer of sheets of their own, makers of cards, and the port's entry points (feature `port`).
+//! printer of sheets of their own, library calls, makers of cards, and the port's entry points (feature `port`).
 
 pub mod card;
+pub mod cases;
 pub mod hooks;
 pub mod leaves;
+pub mod library;
 pub mod ln;
 pub mod makers;
 pub mod open_quantum_systems;
@@ -15,7 +17,7 @@ pub mod sheet;
 pub mod substitute;
 
 /// The kinds that the port's sheet entry has so far. Its reader has all of 1 to 7.
-pub const BUILT: &[u8] = &[1];
+pub const BUILT: &[u8] = &[1, 3, 6];
 
 /// The Rust with its substitutions.
 #[allow(clippy::all)]

@@ -11,7 +11,7 @@ use core::fmt::Write;
 
 #[derive(Clone, Debug, PartialEq, Eq)]
 pub enum Outcome {
-    /// The kind, the header's numbers with zeros after them, and the result words.
+    /// The kind (8 to 10 for library calls), the header's numbers with zeros after them, and the result words.
     Accepted { kind: u8, header: [u64; 4], words: Vec<u64> },
     Refused(Refusal),
 }
@@ -223,7 +223,7 @@ pub fn config_of(controls: &Controls) -> GstOptimizerConfig {
 }
 
 /// The Rust's errors by document 01's numbers.
-fn refusal_of(error: TomographyError) -> Refusal {
+pub(crate) fn refusal_of(error: TomographyError) -> Refusal {
     match error {
         TomographyError::InvalidQubits => Refusal::new(1, 0, 0),
         TomographyError::Shape { expected, actual } => Refusal::new(2, expected as u64, actual as u64),
@@ -258,7 +258,7 @@ fn reason_of(text: &str) -> u64 {
     place.unwrap_or_else(|| panic!("no reason is known for: {text}")) as u64 + 1
 }
 
-/// The sheet as the program prints it.
+/// The sheet, or a library call's outcome, as the programs print it.
 pub fn print(outcome: &Outcome) -> String {
     let mut text = String::new();
     match outcome {
@@ -274,6 +274,9 @@ pub fn print(outcome: &Outcome) -> String {
                 5 => writeln!(text, "fit {a} {b} {c} {d}"),
                 6 => writeln!(text, "model {a}"),
                 7 => writeln!(text, "diagnostics"),
+                8 => writeln!(text, "probes {a}"),
+                9 => writeln!(text, "setting {a}"),
+                10 => writeln!(text, "applied {a}"),
                 kind => unreachable!("kind {kind} has no sheet"),
             }
             .unwrap();

@@ -40,6 +40,12 @@ pub const SUBSTITUTIONS: &[Substitution] = &[
         to: "crate::hooks::count_evaluation();\n        check_tol(tolerance)?;\n        let mut ll = 0.0;",
         times: 1,
     },
+    Substitution {
+        name: "pivots",
+        from: "if l[pivot * n + k].abs() <= pivot_threshold {",
+        to: "crate::hooks::note_pivot(&l, &r, n, k, pivot, pivot_threshold);\n        if l[pivot * n + k].abs() <= pivot_threshold {",
+        times: 1,
+    },
     // An included file may have no inner documentation or attributes.
     Substitution {
         name: "inner documentation",

@@ -1,12 +1,16 @@
 //! Document 01's examples, the order of refusals and the reader's traps, on the reference itself.
 
 use crate::card::{bytes_of, layout, read, Head, Refusal, Role};
+use crate::cases;
+use crate::hooks::with_pivots;
 use crate::makers::fixed::{self, *};
 use crate::makers::numbers::power;
-use crate::makers::{self, readings};
+use crate::library::Call;
+use crate::makers::{self, calls, readings};
 use crate::random::Rng;
 use crate::sheet::{built_outcome, outcome, print, print_reading, reading, Outcome};
 use crate::tomography::{product_probe_expectations, LocalPauliPlan};
+use std::collections::BTreeMap;
 
 fn sheet(words: &[u64]) -> Outcome {
     outcome(&bytes_of(words))
@@ -106,7 +110,7 @@ fn faults_are_the_lowest_by_brute_force() {
                 // A record's length that grew or shrank is seen in the words after it, if they are there.
                 assert!(matches!(cut, Err(Refusal { n: 15, a: b, .. }) if b == a), "{found:?} {cut:?}");
             }
-            _ if size % 8 != 0 || size == 0 => assert_eq!(cut, Err(Refusal::new(15, size as u64 / 8, 0))),
+            _ if !size.is_multiple_of(8) || size == 0 => assert_eq!(cut, Err(Refusal::new(15, size as u64 / 8, 0))),
             _ => assert_ne!(cut, Ok(kind)),
         }
     }
@@ -356,4 +360,226 @@ fn library_functions_of_the_rust() {
     assert!(probes.iter().any(|x| x.to_bits() == 1 << 63));
     assert_eq!(product_probe_expectations(3).unwrap().concat().len(), 4096);
     assert_eq!(LocalPauliPlan::complete(3).unwrap().settings().len(), 27);
+}
+
+fn end_of(outcome: &Outcome) -> String {
+    match outcome {
+        Outcome::Accepted { .. } => "accepted".to_string(),
+        Outcome::Refused(refusal) => format!("refused {}", refusal.n),
+    }
+}
+
+/// How often these cards met each case and each outcome.
+fn cases_met(cards: impl Iterator<Item = Vec<u8>>) -> BTreeMap<String, usize> {
+    let mut met = BTreeMap::new();
+    for bytes in cards {
+        let (outcome, pivots) = with_pivots(|| outcome(&bytes));
+        let cases = cases::of_card(&bytes, &outcome, &pivots);
+        for case in cases.into_iter().map(str::to_string).chain([end_of(&outcome)]) {
+            *met.entry(case).or_default() += 1;
+        }
+    }
+    met
+}
+
+#[track_caller]
+fn at_least(met: &BTreeMap<String, usize>, least: usize, cases: &[&str]) {
+    for &case in cases {
+        assert!(met.get(case).is_some_and(|&times| times >= least), "{case}: {:?}", met.get(case));
+    }
+}
+
+/// What an inversion can meet, in kind 3 and in kind 6.
+const INVERSIONS: &[&str] = &[
+    "a tie of pivots",
+    "a tie of pivots after the first column",
+    "rows exchanged",
+    "no row exchanged, accepted",
+    "a pivot at the threshold",
+    "a pivot one float above the threshold",
+    "a pivot one float below the threshold",
+    "a pivot up to twice the threshold, accepted",
+    "a pivot from half the threshold on, refused",
+    "a pivot of zero",
+    "an infinite pivot",
+    "an infinite pivot, accepted",
+    "a NaN as pivot",
+    "a NaN as pivot, the others too small",
+    "NaNs tie as pivots",
+    "infinities tie as pivots",
+    "not finite in between, accepted",
+    "not finite in between, refused as singular",
+    "refused 3 after the inversion",
+    "refused 3 after a finite inversion",
+    "-0 in the result",
+    "a subnormal in the result",
+    "accepted",
+    "refused 2",
+    "refused 15",
+];
+const PROCESSES: &[&str] =
+    &["not finite in an input", "not finite in an output", "refused 1", "refused 3", "refused 4", "refused 5", "refused 11"];
+const GAUGES: &[&str] = &[
+    "d 0",
+    "d 16",
+    "no effects",
+    "no gates",
+    "8 gates",
+    "a name of zero",
+    "a repeated name",
+    "not finite in the state",
+    "not finite in an effect",
+    "not finite in a gate",
+    "not finite in the transform",
+    "a transform of zeros",
+    "a threshold that rounds to zero",
+    "refused 3",
+    "refused 10",
+    "refused 13",
+];
+
+#[test]
+fn random_cards_meet_every_case() {
+    for (kind, own) in [(3, PROCESSES), (6, GAUGES)] {
+        let mut rng = Rng::new(29);
+        let met = cases_met((0..20_000).map(|_| makers::card(kind, &mut rng)));
+        at_least(&met, 30, INVERSIONS);
+        at_least(&met, 30, own);
+    }
+}
+
+#[test]
+fn fixed_cards_meet_most_cases() {
+    let inversions = ["a tie of pivots", "a pivot at the threshold", "an infinite pivot, accepted", "a NaN as pivot"];
+    let beside = ["a pivot one float above the threshold", "a pivot one float below the threshold"];
+    for (kind, own) in [(3, PROCESSES), (6, GAUGES)] {
+        let met = cases_met(fixed::edges(kind).into_iter().chain(fixed::sweep(&fixed::base(kind))));
+        at_least(&met, 1, &inversions);
+        at_least(&met, 1, &beside);
+        at_least(&met, 1, own);
+    }
+}
+
+#[test]
+fn random_gauges_have_every_shape() {
+    let mut rng = Rng::new(31);
+    let mut shapes = [[0; 17]; 3];
+    for _ in 0..20_000 {
+        let bytes = makers::card(6, &mut rng);
+        if matches!(outcome(&bytes), Outcome::Accepted { .. }) {
+            let head = Head::of(crate::card::whole_words(&bytes)[0]);
+            shapes[0][head.d] += 1;
+            shapes[1][head.effects] += 1;
+            shapes[2][head.gates] += 1;
+        }
+    }
+    assert!(shapes[0][1..].iter().all(|&times| times > 30), "{shapes:?}");
+    assert!(shapes[1][1..].iter().all(|&times| times > 30), "{shapes:?}");
+    assert!(shapes[2][..=8].iter().all(|&times| times > 30), "{shapes:?}");
+}
+
+/// What a call returns, answers and writes.
+fn called(call: Call) -> (u64, [u64; 5], Vec<u64>) {
+    let outcome = call.outcome();
+    let answer = outcome.answer();
+    match outcome {
+        Outcome::Accepted { words, .. } => (0, answer, words),
+        Outcome::Refused(refusal) => (refusal.n, answer, vec![]),
+    }
+}
+
+#[test]
+fn library_calls() {
+    let one = 1f64.to_bits();
+    let (code, answer, words) = called(Call::Probes { n: 1 });
+    assert_eq!((code, answer), (0, [8, 4, 0, 0, 0]));
+    let wanted = [1., 0., 0., 1., 1., 0., 0., -1., 1., 1., 0., 0., 1., 0., 1., 0.].map(f64::to_bits);
+    assert_eq!(words, wanted);
+    assert_eq!(called(Call::Probes { n: 3 }).1, [8, 64, 0, 0, 0]);
+    for n in [0, 4, 64, (1 << 32) + 1, u64::MAX] {
+        assert_eq!(called(Call::Probes { n }), (1, [0, 1, 0, 0, 0], vec![]));
+        assert_eq!(called(Call::Setting { n, index: u64::MAX }), (1, [0, 1, 0, 0, 0], vec![]));
+    }
+    assert_eq!(called(Call::Setting { n: 3, index: 0 }), (0, [9, 3, 0, 0, 0], vec![1, 1, 1]));
+    assert_eq!(called(Call::Setting { n: 3, index: 1 }).2, [1, 1, 2]);
+    assert_eq!(called(Call::Setting { n: 3, index: 26 }).2, [3, 3, 3]);
+    assert_eq!(called(Call::Setting { n: 2, index: 5 }).2, [2, 3]);
+    for (n, index) in [(1, 3), (2, 9), (3, 27), (3, 1 << 32), (1, u64::MAX)] {
+        assert_eq!(called(Call::Setting { n, index }), (15, [0, 15, index, 0, 0], vec![]));
+    }
+    let apply = |n, values: &[f64], input: &[f64]| {
+        called(Call::Apply { n, values: values.to_vec(), input: input.to_vec() })
+    };
+    let identity = diagonal(&[1.0; 4]);
+    assert_eq!(apply(1, &identity, &[1.0; 4]), (0, [10, 4, 0, 0, 0], vec![one; 4]));
+    assert_eq!(apply(2, &[0.0; 256], &[-1.0; 16]), (0, [10, 16, 0, 0, 0], vec![1 << 63; 16]));
+    assert_eq!(apply(1, &[f64::MAX; 16], &[2.0, 2.0, -2.0, 2.0]).2, [0x7ff8000000000000; 4]);
+    assert_eq!(apply(1, &[f64::MAX; 16], &[-1.0, -1.0, 1.0, 1.0]).2, [f64::NEG_INFINITY.to_bits(); 4]);
+    // The order of refusals.
+    let nan = f64::NAN;
+    for n in [0, 3, u64::MAX] {
+        assert_eq!(apply(n, &[nan], &[nan]).1, [0, 1, 0, 0, 0]);
+    }
+    assert_eq!(apply(1, &[nan; 15], &[nan]).1, [0, 2, 16, 15, 0]);
+    assert_eq!(apply(2, &identity, &[nan]).1, [0, 2, 256, 16, 0]);
+    assert_eq!(apply(1, &[nan; 16], &[nan]).1, [0, 3, 0, 0, 0]);
+    assert_eq!(apply(1, &identity, &[nan]).1, [0, 2, 4, 1, 0]);
+    assert_eq!(apply(1, &identity, &[0.0, 0.0, 0.0, f64::INFINITY]).1, [0, 3, 0, 0, 0]);
+}
+
+#[test]
+fn random_calls_meet_every_case() {
+    let mut met = BTreeMap::new();
+    for entry in ["probes", "setting", "apply"] {
+        let mut rng = Rng::new(37);
+        for _ in 0..20_000 {
+            let call = calls::call(entry, &mut rng);
+            let outcome = call.outcome();
+            for case in cases::of_call(&call, &outcome) {
+                *met.entry(format!("{entry}: {case}")).or_default() += 1;
+            }
+            *met.entry(format!("{entry}: {}", end_of(&outcome))).or_default() += 1;
+        }
+    }
+    let cases = [
+        "probes: accepted",
+        "probes: refused 1",
+        "probes: -0 in the result",
+        "setting: accepted",
+        "setting: refused 1",
+        "setting: refused 15",
+        "apply: accepted",
+        "apply: refused 1",
+        "apply: refused 2",
+        "apply: -0 in the result",
+        "apply: a subnormal in the result",
+        "apply: an infinity in the result",
+        "apply: a NaN in the result",
+        "apply: a wrong length beside numbers that are not finite",
+        "apply: not finite in the values",
+        "apply: not finite in the input",
+    ];
+    at_least(&met, 30, &cases);
+}
+
+#[test]
+fn stored_calls() {
+    let list = calls::stored();
+    let printed: Vec<String> = list.iter().map(|call| print(&call.outcome())).collect();
+    assert!((50..=100).contains(&list.len()), "{}", list.len());
+    assert_eq!(printed.iter().filter(|text| text.starts_with("probes 64\n")).count(), 1);
+    for start in ["probes 4\n", "probes 16\n", "setting 1\n", "setting 2\n", "setting 3\n", "applied 4\n", "applied 16\n"] {
+        assert!(printed.iter().any(|text| text.starts_with(start)), "{start}");
+    }
+    for start in ["refused 1 ", "refused 2 ", "refused 3 ", "refused 15 "] {
+        assert!(printed.iter().any(|text| text.starts_with(start)), "{start}");
+    }
+    for word in ["7ff8000000000000", "7ff0000000000000", "fff0000000000000", "8000000000000000"] {
+        let shown = |text: &String| text.starts_with("applied") && text.lines().any(|line| line == word);
+        assert!(printed.iter().any(shown), "{word}");
+    }
+    assert_eq!(print(&Call::Setting { n: 2, index: 5 }.outcome()), "setting 2\n0000000000000002\n0000000000000003\n");
+    let apply = Call::Apply { n: 1, values: vec![1.0], input: vec![-0.0] };
+    assert_eq!(apply.words(), [10, 1, 1, 1f64.to_bits(), 1 << 63]);
+    assert_eq!(print(&apply.outcome()), "refused 2 0000000000000010 0000000000000001\n");
 }

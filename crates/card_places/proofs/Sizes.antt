@@ -5,23 +5,13 @@ use mathlib.Core.Bool.{false}
 use lib.Dec.{lit≤, lit<}
 use native.Mathlib.Nat.{mul-le-mul, pow-le-pow-right}
 use native.Mathlib.Omega.{arith}
+use Rattle.sizes.proofs.Small.{product-le, four-shift}
 use Rattle.card_layout.specs.declared.Header.{Header}
 use Rattle.card_layout.specs.Limits.{Limited, limitsOf}
 use Rattle.card_layout.specs.Rules.{word0Breaks, qubitsBreak}
 use Rattle.card_layout.proofs.EachKind.{at-kind, few-qubits}
 use Rattle.card_places.specs.Places.{wantedWords, modelWords}
 use Rattle.card_places.proofs.ByKind.{at5, at6, at7, words1, words2, words3, words4, words5, words6, words7}
-
-pub product-le : (a b m n : ℕ) → a ≤ m → b ≤ n → a * b ≤ m * n
-product-le a b m n h k = mul-le-mul {n₁ = a} {m₁ = b} {n₂ = m} {m₂ = n} h k
-
--- 4^n, as a shift of 1 gives it
-pub four-shift : (n : ℕ) → n ≤ 3 → (1 * 2 ^ (2 * n) % 2 ^ 64 ≡ 4 ^ n) × (4 ^ n ≤ 64)
-four-shift zero h = (refl, lit≤ tt)
-four-shift (suc zero) h = (refl, lit≤ tt)
-four-shift (suc (suc zero)) h = (refl, lit≤ tt)
-four-shift (suc (suc (suc zero))) h = (refl, lit≤ tt)
-four-shift (suc (suc (suc (suc n)))) h = absurd (omega arith)
 
 -- a result that is m has m's bound
 pub bounded : {r m n : ℕ} → r ≡ m → m ≤ n → (r ≡ m) × (r ≤ n)

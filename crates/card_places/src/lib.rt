@@ -1,5 +1,7 @@
 // The place of each thing on a card, and how many words the card has.
 use card_layout::Header;
+use sizes::four_to;
+use sizes::square;
 ghost use mathlib.Core.Path.{_≡_};
 ghost use Prim.Native.Nat.{_+_, _*_, _^_, _≤_, _<_};
 ghost use Rattle.card_layout.specs.Limits.{Limited};
@@ -10,21 +12,6 @@ fn product(a: usize, b: usize) -> usize
     ensures { λ r. ⌜ (r ≡ a * b) × (r ≤ 2 ^ 32) ⌝ }
 {
     a * b
-}
-
-pub fn square(d: usize) -> usize
-    requires { ⌜ d ≤ 64 ⌝ }
-    ensures { λ r. ⌜ (r ≡ d * d) × (r ≤ 4096) ⌝ }
-{
-    d * d
-}
-
-// 4 to the power n.
-pub fn four_to(n: usize) -> usize
-    requires { ⌜ n ≤ 3 ⌝ }
-    ensures { λ r. ⌜ (r ≡ 4 ^ n) × (r ≤ 64) ⌝ }
-{
-    1 << (2 * n)
 }
 
 pub fn model_words(h: Header) -> usize

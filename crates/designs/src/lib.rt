@@ -1,5 +1,6 @@
 // Designs of experiments: the probes that make a process known, and the settings that make a state known.
-use card_places::four_to;
+use sizes::four_to;
+use sizes::three_to;
 ghost use mathlib.Core.Path.{_≡_};
 ghost use mathlib.Core.List.{_++_};
 ghost use Prim.Native.Nat.{_+_, _*_, _^_, _≤_, _<_};
@@ -7,23 +8,6 @@ ghost use lib.ListN.{length, drop};
 ghost use Rattle.designs.specs.Digit.{digitOf};
 ghost use Rattle.designs.specs.Probes.{local, expectation, probesOf};
 ghost use Rattle.designs.specs.Settings.{settingOf};
-
-// 3 to the power n.
-pub fn three_to(n: usize) -> usize
-    requires { ⌜ n ≤ 3 ⌝ }
-    ensures { λ r. ⌜ (r ≡ 3 ^ n) × (0 < r) × (r ≤ 27) ⌝ }
-{
-    if n == 0 {
-        return 1;
-    }
-    if n == 1 {
-        return 3;
-    }
-    if n == 2 {
-        return 9;
-    }
-    27
-}
 
 // The qubit's digit in base 4. A division by a power of 2 is a shift.
 fn quarter(n: usize, code: usize, qubit: usize) -> usize

@@ -1,63 +1,42 @@
--- Rows that were copied, lent and written over. Assumes nothing.
-use mathlib.Core.Path.{_≡_, refl, sym, _∙_, ap}
+-- The pivot's row, copied, divided and put in its place. Assumes nothing.
+use mathlib.Core.Path.{_≡_, refl, sym, _∙_, ap, ap₂}
 use mathlib.Core.List.{List, _++_}
 use Prim.Native.Nat.{ℕ, _+_, _-_, _*_, _≤_}
-use native.Mathlib.Nat.{zero-add}
 use native.Mathlib.Omega.{arith}
-use lib.ListN.{length, take, drop, getD, length-take, length-drop, length-append}
-use lib.Seq.{take-at}
+use lib.ListN.{length, take, drop}
 use lib.Ieee.{Float}
-use Rattle.lists.specs.Build.{build}
-use Rattle.lists.specs.Part.{part, onPart}
-use Rattle.lists.proofs.Filling.{build-same, build-part}
-use Rattle.lists.proofs.Parts.{length-part, part-back}
-use Rattle.elimination.specs.Rows.{rowOf, onRow, swapped, dividedRow, eliminated, clearedBy}
+use Rattle.lists.specs.Fold.{fold}
+use Rattle.lists.proofs.Filling.{length-build}
+use Rattle.lists.proofs.Parts.{length-part, length-put, part-back, part-put, on-put, front-is, copied}
+use Rattle.elimination.specs.Rows.{rowOf, onRow, swapped, dividedRow, eliminatedRow, eliminated, clearedBy}
 
-module _ {A : Type 0} where
-  -- what the front of a copy holds
-  pub copied : (a w : ℕ) (l d s : List A) → a + w ≤ length l → s ≡ part a w l ++ d → take w s ≡ part a w l
-  copied a w l d s h e = ap (take w) e ∙ take-at (part a w l) d w (length-part a w l h)
+pub length-divided : (k : ℕ) (r : List Float) → length (dividedRow k r) ≡ length r
+unfolding dividedRow
+length-divided k r = length-build (length r) _
 
-  pub copied-long : (a w : ℕ) (l d s : List A) → a + w ≤ length l → s ≡ part a w l ++ d → length (take w s) ≡ w
-  copied-long a w l d s h e = ap length (copied a w l d s h e) ∙ length-part a w l h
+-- row r, put in row k, was divided there and taken from the others
+eliminated-by : (n w k : ℕ) (r l : List Float) → k * w + w ≤ length l → length r ≡ w
+    → fold n (eliminatedRow (dividedRow k r) w k) (onRow w k (λ _. dividedRow k r) l) ≡ eliminated n w k (onRow w k (dividedRow k) (onRow w k (λ _. r) l))
+unfolding eliminated
+eliminated-by n w k r l h e =
+    sym
+    (ap (λ (m : List Float). fold n (eliminatedRow (rowOf w k m) w k) m) (on-put (k * w) w (dividedRow k) r l h e)
+    ∙ ap (λ (p : List Float). fold n (eliminatedRow p w k) (onRow w k (λ _. dividedRow k r) l)) (part-put (k * w) w (dividedRow k r) l h (length-divided k r ∙ e)))
 
-  -- a part that was lent is as long as it is said to be
-  pub lent-long : (a e w : ℕ) (l : List A) → e ≡ a + w → e ≤ length l → length (take (e - a) (drop a l)) ≡ w
-  lent-long a e w l h k = simp (length-take, length-drop) (omega arith)
-
-  -- the part `a..e` was written over with r
-  pub put-back : (a e w : ℕ) (r s l ys : List A) → e ≡ a + w → e ≤ length l → take w s ≡ r → ys ≡ take (length (take (e - a) (drop a l))) s
-      → take a l ++ (ys ++ drop (e - a) (drop a l)) ≡ onPart a w (λ _. r) l
-  put-back a e w r s l ys h k q y = part-back a e w (λ _. r) l ys h (y ∙ ap (λ (m : ℕ). take m s) (lent-long a e w l h k) ∙ q)
-
-  -- it keeps the length
-  pub length-put : (a w : ℕ) (r l : List A) → a + w ≤ length l → length r ≡ w → length (onPart a w (λ _. r) l) ≡ length l
-  length-put a w r l h k = simp (length-append, length-take, length-drop, k) (omega arith)
-
-  -- the front of a list is built of its entries
-  pub build-front : (z : A) (n : ℕ) (l : List A) → n ≤ length l → build n (λ i. getD l i z) ≡ take n l
-  build-front z n l h =
-      build-same n _ (λ i. getD l (0 + i) z) (λ j _. ap (λ (i : ℕ). getD l i z) (sym (zero-add j))) ∙ build-part z 0 n l (omega arith)
-
--- both rows were copied, and each written over with the other
-module _ (w i k : ℕ) (l c d first second y z : List Float) where
-  pub swap-back : i * w + w ≤ length l → k * w + w ≤ length l → first ≡ rowOf w i l ++ c → second ≡ rowOf w k l ++ d
-      → y ≡ take (length (take (i * w + w - i * w) (drop (i * w) l))) second
-      → z ≡ take (length (take (k * w + w - k * w) (drop (k * w) (take (i * w) l ++ (y ++ drop (i * w + w - i * w) (drop (i * w) l)))))) first
-      → take (k * w) (take (i * w) l ++ (y ++ drop (i * w + w - i * w) (drop (i * w) l)))
-      ++ (z ++ drop (k * w + w - k * w) (drop (k * w) (take (i * w) l ++ (y ++ drop (i * w + w - i * w) (drop (i * w) l)))))
-      ≡ swapped w i k l
-  unfolding swapped
-  swap-back h m f s p q =
-      let l₁ : List Float = take (i * w) l ++ (y ++ drop (i * w + w - i * w) (drop (i * w) l)) in
-      let e : l₁ ≡ onRow w i (λ _. rowOf w k l) l = put-back (i * w) (i * w + w) w (rowOf w k l) second l y refl h (copied (k * w) w l d second m s) p in
-      let n : length l₁ ≡ length l = ap length e ∙ length-put (i * w) w (rowOf w k l) l h (length-part (k * w) w l m) in
-      put-back (k * w) (k * w + w) w (rowOf w i l) first l₁ z refl (omega arith) (copied (i * w) w l c first h f) q
-      ∙ ap (onRow w k (λ _. rowOf w i l)) e
-
--- the pivot's row is in its place, was divided there, and taken from the others
-pub cleared-back : (n w k p : ℕ) (l l₁ y l₂ : List Float) → l₁ ≡ swapped w p k l → y ≡ dividedRow k (take (k * w + w - k * w) (drop (k * w) l₁))
-    → l₂ ≡ eliminated n w k (take (k * w) l₁ ++ (y ++ drop (k * w + w - k * w) (drop (k * w) l₁))) → l₂ ≡ clearedBy n w k p l
-unfolding clearedBy
-cleared-back n w k p l l₁ y l₂ a b e =
-    e ∙ ap (eliminated n w k) (part-back (k * w) (k * w + w) w (dividedRow k) l₁ y refl b ∙ ap (onRow w k (dividedRow k)) a)
+-- s is the copy of row p, q and y its first w numbers divided, t the copy with q, l₂ the rows with y in row k
+module _ (n w k p : ℕ) (l d s l₁ q y l₃ : List Float) where
+  pub cleared-back : k * w + w ≤ length l → p * w + w ≤ length l → s ≡ rowOf w p l ++ d → l₁ ≡ onRow w p (λ _. rowOf w k l) l
+      → q ≡ dividedRow k (take w s) → y ≡ dividedRow k (take w s)
+      → l₃ ≡ fold n (eliminatedRow (take w (q ++ drop w s)) w k) (take (k * w) l₁ ++ (y ++ drop (k * w + w - k * w) (drop (k * w) l₁)))
+      → l₃ ≡ clearedBy n w k p l
+  unfolding clearedBy swapped
+  cleared-back h m c e a b f =
+      let r : take w s ≡ rowOf w p l = copied (p * w) w l d s m c in
+      let g : q ≡ dividedRow k (rowOf w p l) = a ∙ ap (dividedRow k) r in
+      let i : length (rowOf w p l) ≡ w = length-part (p * w) w l m in
+      let t : take w (q ++ drop w s) ≡ dividedRow k (rowOf w p l) = front-is w q s (dividedRow k (rowOf w p l)) g (length-divided k (rowOf w p l) ∙ i) in
+      let v : length l₁ ≡ length l = ap length e ∙ length-put (p * w) w (rowOf w k l) l m (length-part (k * w) w l h) in
+      f
+      ∙ ap₂ (λ (x z : List Float). fold n (eliminatedRow x w k) z) t (part-back (k * w) (k * w + w) w (λ _. dividedRow k (rowOf w p l)) l₁ y refl (b ∙ ap (dividedRow k) r))
+      ∙ eliminated-by n w k (rowOf w p l) l₁ (omega arith) i
+      ∙ ap (λ (z : List Float). eliminated n w k (onRow w k (dividedRow k) (onRow w k (λ _. rowOf w p l) z))) e

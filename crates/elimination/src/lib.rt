@@ -1,11 +1,12 @@
 // The row operations of Gauss-Jordan elimination. A row is lent as a part of the work slice; a row that another one needs is copied to a local array.
+// They are written once, for every width. The widths of one and two qubits, 8 and 32, are passed on as constants, so that the compiler unrolls their loops.
 ghost use mathlib.Core.Path.{_≡_};
 ghost use mathlib.Core.List.{_++_};
 ghost use Prim.Native.Nat.{_+_, _*_, _≤_, _<_};
 ghost use lib.ListN.{length, take, drop};
 ghost use Rattle.lists.specs.Fold.{fold};
 ghost use Rattle.lists.specs.Part.{part};
-ghost use Rattle.elimination.specs.Rows.{swapped, dividedRow, lessRow, eliminatedRow, eliminated, clearedBy};
+ghost use Rattle.elimination.specs.Rows.{rowOf, onRow, dividedRow, lessRow, eliminatedRow, clearedBy};
 
 // Copies w numbers from `start` on to the front of `out`.
 pub fn copy_row(from: &[f64], start: usize, w: usize, out: &mut [f64])
@@ -28,32 +29,29 @@ pub fn put_row(row: &mut [f64], from: &[f64])
     }
 }
 
-// Exchanges rows i and k.
-fn swap_rows(work: &mut [f64], w: usize, i: usize, k: usize)
-    requires { ⌜ (w ≤ 32) × (i * w + w ≤ length (now work)) × (k * w + w ≤ length (now work)) ⌝ }
-    ensures { λ _. ⌜ now (work .exit) ≡ swapped w i k (now (work .entry)) ⌝ }
+// Copies row k over row p.
+fn move_row(work: &mut [f64], w: usize, k: usize, p: usize)
+    requires { ⌜ (w ≤ 32) × (k * w + w ≤ length (now work)) × (p * w + w ≤ length (now work)) ⌝ }
+    ensures { λ _. ⌜ now (work .exit) ≡ onRow w p (λ _. rowOf w k (now (work .entry))) (now (work .entry)) ⌝ }
 {
-    let mut first = [0.0f64; 32];
-    let mut second = [0.0f64; 32];
-    copy_row(work, i * w, w, &mut first);
-    copy_row(work, k * w, w, &mut second);
-    let start = i * w;
+    let mut row = [0.0f64; 32];
+    copy_row(work, k * w, w, &mut row);
+    let start = p * w;
     let end = start + w;
-    put_row(&mut work[start..end], &second);
-    let start_k = k * w;
-    let end_k = start_k + w;
-    put_row(&mut work[start_k..end_k], &first);
+    put_row(&mut work[start..end], &row);
 }
 
-// Divides the row by its entry k, read before.
-fn divide_row(row: &mut [f64], k: usize)
-    requires { ⌜ k < length (now row) ⌝ }
-    ensures { λ _. ⌜ now (row .exit) ≡ dividedRow k (now (row .entry)) ⌝ }
+// Divides the row by its entry k, read before, and writes `out` over with it.
+fn divide_row(row: &mut [f64], k: usize, out: &mut [f64])
+    requires { ⌜ (k < length (now row)) × (length (now out) ≡ length (now row)) ⌝ }
+    ensures { λ _. ⌜ (now (row .exit) ≡ dividedRow k (now (row .entry))) × (now (out .exit) ≡ dividedRow k (now (row .entry))) ⌝ }
 {
     let d = row[k];
     let width = row.len();
     for j in 0..width {
-        row[j] = row[j] / d;
+        let quotient = row[j] / d;
+        row[j] = quotient;
+        out[j] = quotient;
     }
 }
 
@@ -92,13 +90,17 @@ fn eliminate_rows(work: &mut [f64], pivot: &[f64], n: usize, w: usize, k: usize)
     }
 }
 
-// The same by row k, copied first.
-fn eliminate(work: &mut [f64], n: usize, w: usize, k: usize)
-    requires { ⌜ (k < n) × (k < w) × (w ≤ 32) × (n * w ≤ length (now work)) ⌝ }
-    ensures { λ _. ⌜ now (work .exit) ≡ eliminated n w k (now (work .entry)) ⌝ }
+// The pivot's row is copied, row k put in its place, and the copy, divided by the pivot, is put in row k and taken from the others.
+fn clear_by(work: &mut [f64], n: usize, w: usize, k: usize, p: usize)
+    requires { ⌜ (k < n) × (p < n) × (k < w) × (w ≤ 32) × (n * w ≤ length (now work)) ⌝ }
+    ensures { λ _. ⌜ now (work .exit) ≡ clearedBy n w k p (now (work .entry)) ⌝ }
 {
     let mut pivot = [0.0f64; 32];
-    copy_row(work, k * w, w, &mut pivot);
+    copy_row(work, p * w, w, &mut pivot);
+    move_row(work, w, k, p);
+    let start = k * w;
+    let end = start + w;
+    divide_row(&mut pivot[..w], k, &mut work[start..end]);
     eliminate_rows(work, &pivot[..w], n, w, k);
 }
 
@@ -107,9 +109,13 @@ pub fn clear_column(work: &mut [f64], n: usize, w: usize, k: usize, p: usize)
     requires { ⌜ (k < n) × (p < n) × (k < w) × (w ≤ 32) × (n * w ≤ length (now work)) ⌝ }
     ensures { λ _. ⌜ now (work .exit) ≡ clearedBy n w k p (now (work .entry)) ⌝ }
 {
-    swap_rows(work, w, p, k);
-    let start = k * w;
-    let end = start + w;
-    divide_row(&mut work[start..end], k);
-    eliminate(work, n, w, k);
+    if w == 32 {
+        clear_by(work, n, 32, k, p);
+        return;
+    }
+    if w == 8 {
+        clear_by(work, n, 8, k, p);
+        return;
+    }
+    clear_by(work, n, w, k, p);
 }

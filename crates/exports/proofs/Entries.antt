@@ -1,6 +1,6 @@
--- The library's entries, exported with and without room for an answer. Assumes nothing.
+-- An entry point's outcome, exported with and without room for an answer. Assumes nothing.
 use Prim.Native.Nat.{ℕ, _≤_, _<_}
-use mathlib.Core.Path.{_≡_, refl, sym, ap, _∙_}
+use mathlib.Core.Path.{_≡_, refl, ap, _∙_}
 use mathlib.Core.List.{List}
 use borrow.Author.Tests.{lt-leb, le-leb}
 use lib.ListN.{length}
@@ -9,40 +9,36 @@ use Rattle.lists.specs.Build.{over}
 use Rattle.lists.proofs.Choices.{yes, no}
 use Rattle.numbers.specs.Slice.{blank}
 use Rattle.refusal.specs.declared.Refusal.the-variants.{ShortBuffer}
-use Rattle.tomography.specs.declared.library.LibraryAnswer.{LibraryAnswer}
-use Rattle.tomography.specs.Library.{LibraryOutcome, declined, inRoom, Entry}
-use Rattle.exports.specs.Library.{libraryWords, libraryCode, exportedEntry, EntryExported}
+use Rattle.outcome.specs.declared.Answer.{Answer}
+use Rattle.outcome.specs.Outcome.{Outcome, refused, inRoom, Call}
+use Rattle.exports.specs.Exported.{answerWords, answerCode, exportedOf, Exported}
 
--- the words and the code of an answer whose case is known
-pub words-told : {a x : LibraryAnswer} {n : ℕ} {out₁ : List ℕ} (out₀ : List ℕ) → a ≡ x → n ≡ libraryCode x → out₁ ≡ over (libraryWords x) out₀ → (n ≡ libraryCode a) × (out₁ ≡ over (libraryWords a) out₀)
-words-told out₀ e p q = (p ∙ ap libraryCode (sym e), q ∙ ap (λ (x : LibraryAnswer). over (libraryWords x) out₀) (sym e))
+module _ (o : Outcome) (result₀ result₁ : List ℕ) (work₀ work₁ : List Float) (answer₀ answer₁ : List ℕ) where
+  no-room : length answer₀ < 5 → refused ShortBuffer ≡ exportedOf o result₀ work₀ answer₀
+  unfolding exportedOf
+  no-room h = no _ (lt-leb 5 (length answer₀) h) refl
 
-module _ (o : LibraryOutcome) (result₀ result₁ : List ℕ) (work₀ work₁ : List Float) (answer₀ answer₁ : List ℕ) where
-  no-entry : length answer₀ < 5 → declined ShortBuffer ≡ exportedEntry o result₀ work₀ answer₀
-  unfolding exportedEntry
-  no-entry h = no _ (lt-leb 5 (length answer₀) h) refl
+  with-room : 5 ≤ length answer₀ → inRoom result₀ work₀ o ≡ exportedOf o result₀ work₀ answer₀
+  unfolding exportedOf
+  with-room h = yes _ (le-leb 5 (length answer₀) h)
 
-  with-entry : 5 ≤ length answer₀ → inRoom result₀ work₀ o ≡ exportedEntry o result₀ work₀ answer₀
-  unfolding exportedEntry
-  with-entry h = yes _ (le-leb 5 (length answer₀) h)
-
-  pub entry-silent : length answer₀ < 5 → result₁ ≡ result₀ → answer₁ ≡ answer₀ → work₁ ≡ blank work₀ → EntryExported o result₀ result₁ work₀ work₁ answer₀ answer₁ 16
-  entry-silent h p q w =
-      let e = no-entry h in
+  pub nothing-told : length answer₀ < 5 → result₁ ≡ result₀ → answer₁ ≡ answer₀ → work₁ ≡ blank work₀ → Exported o result₀ result₁ work₀ work₁ answer₀ answer₁ 16
+  nothing-told h p q w =
+      let e = no-room h in
       record {
-        code = ap (λ (x : LibraryOutcome). libraryCode (x .answer)) e;
+        code = ap (λ (x : Outcome). answerCode (x .answer)) e;
         answer = no _ (lt-leb 5 (length answer₀) h) q;
-        result = p ∙ ap (λ (x : LibraryOutcome). over (x .words) result₀) e;
+        result = p ∙ ap (λ (x : Outcome). over (x .words) result₀) e;
         work = w;
       }
 
-  pub entry-told : (a : LibraryAnswer) (r : ℕ) → 5 ≤ length answer₀ → Entry o result₀ result₁ work₀ work₁ a → r ≡ libraryCode a → answer₁ ≡ over (libraryWords a) answer₀ → EntryExported o result₀ result₁ work₀ work₁ answer₀ answer₁ r
-  entry-told a r h s p q =
-      let e = with-entry h in
-      let f = s .tells .answer ∙ ap (λ (x : LibraryOutcome). x .answer) e in
+  pub all-told : (a : Answer) (r : ℕ) → 5 ≤ length answer₀ → Call o result₀ result₁ work₀ work₁ a → (r ≡ answerCode a) × (answer₁ ≡ over (answerWords a) answer₀) → Exported o result₀ result₁ work₀ work₁ answer₀ answer₁ r
+  all-told a r h s put =
+      let e = with-room h in
+      let f = s .gives .answer ∙ ap (λ (x : Outcome). x .answer) e in
       record {
-        code = p ∙ ap libraryCode f;
-        answer = q ∙ ap (λ (x : LibraryAnswer). over (libraryWords x) answer₀) f ∙ yes answer₀ (le-leb 5 (length answer₀) h);
-        result = s .tells .written ∙ ap (λ (x : LibraryOutcome). over (x .words) result₀) e;
+        code = put .0 ∙ ap answerCode f;
+        answer = put .1 ∙ ap (λ (x : Answer). over (answerWords x) answer₀) f ∙ yes answer₀ (le-leb 5 (length answer₀) h);
+        result = s .gives .written ∙ ap (λ (x : Outcome). over (x .words) result₀) e;
         work = s .blanked;
       }

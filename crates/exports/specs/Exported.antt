@@ -14,26 +14,39 @@ use Rattle.refusal.specs.declared.Refusal.the-variants.{ShortBuffer}
 use Rattle.card.specs.declared.Reading.{Reading}
 use Rattle.card.specs.declared.Reading.the-variants as read
 use Rattle.card.specs.Reading.{readOf}
-use Rattle.tomography.specs.declared.Answer.{Answer}
-use Rattle.tomography.specs.declared.Answer.the-variants as answer
-use Rattle.tomography.specs.Outcome.{Outcome, refused}
-use Rattle.tomography.specs.Sheet.{outcomeOf}
+use Rattle.outcome.specs.declared.Answer.{Answer}
+use Rattle.outcome.specs.declared.Answer.the-variants as answer
+use Rattle.outcome.specs.Outcome.{Outcome, refused, inRoom}
 
--- five words: the kind of the sheet and the numbers of its header, or 0 and a refusal's N, A and B; zero where there is none
+-- five words: the number of what is told, and the number of its header; or 0 and a refusal's N, A and B; zero where there is none
+abbrev pub headerWords : ℕ → ℕ → List ℕ
+headerWords kind number = kind ∷ number ∷ 0 ∷ 0 ∷ 0 ∷ []
+
 abbrev pub refusalWords : Refusal → List ℕ
 refusalWords r = 0 ∷ codeOf r ∷ valueA r ∷ valueB r ∷ 0 ∷ []
 
+-- a sheet has the number of its card's kind; the library's entries come after the seven kinds
 abbrev pub answerWords : Answer → List ℕ
-answerWords (answer.Density d) = 1 ∷ d ∷ 0 ∷ 0 ∷ 0 ∷ []
+answerWords (answer.Density d) = headerWords 1 d
+answerWords (answer.Process p) = headerWords 3 p
+answerWords (answer.Model w) = headerWords 6 w
+answerWords (answer.Probes c) = headerWords 8 c
+answerWords (answer.Setting n) = headerWords 9 n
+answerWords (answer.Applied p) = headerWords 10 p
 answerWords (answer.Refused r) = refusalWords r
 
--- what is returned: 0 for a sheet, N for a refusal
+-- what is returned: N for a refusal, 0 for all else
 abbrev pub answerCode : Answer → ℕ
 answerCode (answer.Density d) = 0
+answerCode (answer.Process p) = 0
+answerCode (answer.Model w) = 0
+answerCode (answer.Probes c) = 0
+answerCode (answer.Setting n) = 0
+answerCode (answer.Applied p) = 0
 answerCode (answer.Refused r) = codeOf r
 
 abbrev pub readingWords : Reading → List ℕ
-readingWords (read.Accepted h) = h .kind ∷ 0 ∷ 0 ∷ 0 ∷ 0 ∷ []
+readingWords (read.Accepted h) = headerWords (h .kind) 0
 readingWords (read.Refused r) = refusalWords r
 
 abbrev pub readingCode : Reading → ℕ
@@ -44,15 +57,15 @@ readingCode (read.Refused r) = codeOf r
 abbrev pub answerable : List ℕ → Bool
 answerable answer = leb 5 (length answer)
 
--- the outcome of the sheet's entry point, 16 before it where there is no room for an answer
-unfoldable pub exportedOf : List ℕ → List ℕ → List Float → List ℕ → Outcome
-exportedOf card result work answer = cond (answerable answer) (outcomeOf card result work) (refused ShortBuffer)
+-- the outcome o of an entry point, 16 before it where there is no room
+unfoldable pub exportedOf : Outcome → List ℕ → List Float → List ℕ → Outcome
+exportedOf o result work answer = cond (answerable answer) (inRoom result work o) (refused ShortBuffer)
 
--- the sheet of a card: every word of each slice, and what is returned
-pub record SheetExported (card result₀ result₁ : List ℕ) (work₀ work₁ : List Float) (answer₀ answer₁ : List ℕ) (r : ℕ) : Type 0 where
-  pub code : r ≡ answerCode (exportedOf card result₀ work₀ answer₀ .answer)
-  pub answer : answer₁ ≡ cond (answerable answer₀) (over (answerWords (exportedOf card result₀ work₀ answer₀ .answer)) answer₀) answer₀
-  pub result : result₁ ≡ over (exportedOf card result₀ work₀ answer₀ .words) result₀
+-- every word of each slice, and what is returned
+pub record Exported (o : Outcome) (result₀ result₁ : List ℕ) (work₀ work₁ : List Float) (answer₀ answer₁ : List ℕ) (r : ℕ) : Type 0 where
+  pub code : r ≡ answerCode (exportedOf o result₀ work₀ answer₀ .answer)
+  pub answer : answer₁ ≡ cond (answerable answer₀) (over (answerWords (exportedOf o result₀ work₀ answer₀ .answer)) answer₀) answer₀
+  pub result : result₁ ≡ over (exportedOf o result₀ work₀ answer₀ .words) result₀
   pub work : work₁ ≡ blank work₀
 
 -- the reading of a card

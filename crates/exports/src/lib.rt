@@ -1,8 +1,7 @@
 // The entry points for C and Rust: numbers and slices only. include/mintshuttle.h says the same in C's terms.
 use card::Reading;
+use outcome::Answer;
 use refusal::Refusal;
-use tomography::Answer;
-use tomography::library::LibraryAnswer;
 ghost use mathlib.Core.Path.{_≡_};
 ghost use mathlib.Core.List.{_∷_, [], _++_};
 ghost use Prim.Native.Nat.{_≤_, min};
@@ -12,9 +11,9 @@ ghost use Rattle.numbers.specs.Slice.{at};
 ghost use Rattle.root.specs.Root.{sqrt};
 ghost use Rattle.logarithm.specs.Steps.{ln, lnBy, entriesOf};
 ghost use Rattle.refusal.specs.Values.{codeOf};
-ghost use Rattle.tomography.specs.Library.{probesEntry, settingEntry};
-ghost use Rattle.exports.specs.Exported.{refusalWords, answerWords, answerCode, readingWords, readingCode, SheetExported, ReadExported, Mapped};
-ghost use Rattle.exports.specs.Library.{libraryWords, libraryCode, EntryExported};
+ghost use Rattle.library.specs.Entries.{probesEntry, settingEntry, applyEntry};
+ghost use Rattle.tomography.specs.Sheet.{sheetOf};
+ghost use Rattle.exports.specs.Exported.{headerWords, refusalWords, answerWords, answerCode, readingWords, readingCode, Exported, ReadExported, Mapped};
 
 fn put(out: &mut [u64], a: u64, b: u64, c: u64, d: u64)
     requires { ⌜ 5 ≤ length (now out) ⌝ }
@@ -36,33 +35,26 @@ fn put_refusal(r: Refusal, out: &mut [u64]) -> u64
     n
 }
 
+fn put_header(kind: u64, number: u64, out: &mut [u64]) -> u64
+    requires { ⌜ 5 ≤ length (now out) ⌝ }
+    ensures { λ n. ⌜ (n ≡ 0) × (now (out .exit) ≡ over (headerWords kind number) (now (out .entry))) ⌝ }
+{
+    put(out, kind, number, 0, 0);
+    0
+}
+
 fn put_answer(a: Answer, out: &mut [u64]) -> u64
     requires { ⌜ 5 ≤ length (now out) ⌝ }
     ensures { λ n. ⌜ (n ≡ answerCode a) × (now (out .exit) ≡ over (answerWords a) (now (out .entry))) ⌝ }
 {
     match a {
-        Answer::Density { dimension } => {
-            put(out, 1, dimension, 0, 0);
-            0
-        }
+        Answer::Density { dimension } => put_header(1, dimension, out),
+        Answer::Process { size } => put_header(3, size, out),
+        Answer::Model { words } => put_header(6, words, out),
+        Answer::Probes { count } => put_header(8, count, out),
+        Answer::Setting { qubits } => put_header(9, qubits, out),
+        Answer::Applied { size } => put_header(10, size, out),
         Answer::Refused(r) => put_refusal(r, out),
-    }
-}
-
-fn put_library(a: LibraryAnswer, out: &mut [u64]) -> u64
-    requires { ⌜ 5 ≤ length (now out) ⌝ }
-    ensures { λ n. ⌜ (n ≡ libraryCode a) × (now (out .exit) ≡ over (libraryWords a) (now (out .entry))) ⌝ }
-{
-    match a {
-        LibraryAnswer::Probes { count } => {
-            put(out, 8, count, 0, 0);
-            0
-        }
-        LibraryAnswer::Setting { qubits } => {
-            put(out, 9, qubits, 0, 0);
-            0
-        }
-        LibraryAnswer::Refused(r) => put_refusal(r, out),
     }
 }
 
@@ -73,8 +65,7 @@ fn put_reading(a: Reading, out: &mut [u64]) -> u64
     match a {
         Reading::Accepted(h) => {
             let kind = h.kind;
-            put(out, kind as u64, 0, 0, 0);
-            0
+            put_header(kind as u64, 0, out)
         }
         Reading::Refused(r) => put_refusal(r, out),
     }
@@ -88,7 +79,7 @@ pub extern "C" fn mintshuttle_sheet(
     work: &mut [f64],
     answer: &mut [u64],
 ) -> u64
-    ensures { λ r. ⌜ SheetExported (now (card .entry)) (now (result .entry)) (now (result .exit)) (now (work .entry)) (now (work .exit)) (now (answer .entry)) (now (answer .exit)) r ⌝ }
+    ensures { λ r. ⌜ Exported (sheetOf (now (card .entry))) (now (result .entry)) (now (result .exit)) (now (work .entry)) (now (work .exit)) (now (answer .entry)) (now (answer .exit)) r ⌝ }
 {
     if answer.len() < 5 {
         numbers::clear(work);
@@ -106,14 +97,14 @@ pub extern "C" fn mintshuttle_probes(
     work: &mut [f64],
     answer: &mut [u64],
 ) -> u64
-    ensures { λ r. ⌜ EntryExported (probesEntry n) (now (result .entry)) (now (result .exit)) (now (work .entry)) (now (work .exit)) (now (answer .entry)) (now (answer .exit)) r ⌝ }
+    ensures { λ r. ⌜ Exported (probesEntry n) (now (result .entry)) (now (result .exit)) (now (work .entry)) (now (work .exit)) (now (answer .entry)) (now (answer .exit)) r ⌝ }
 {
     if answer.len() < 5 {
         numbers::clear(work);
         return 16;
     }
-    let a = tomography::library::product_probe_expectations(n, result, work);
-    put_library(a, answer)
+    let a = library::product_probe_expectations(n, result, work);
+    put_answer(a, answer)
 }
 
 // The axes of one setting of n qubits.
@@ -125,14 +116,34 @@ pub extern "C" fn mintshuttle_setting(
     work: &mut [f64],
     answer: &mut [u64],
 ) -> u64
-    ensures { λ r. ⌜ EntryExported (settingEntry n index) (now (result .entry)) (now (result .exit)) (now (work .entry)) (now (work .exit)) (now (answer .entry)) (now (answer .exit)) r ⌝ }
+    ensures { λ r. ⌜ Exported (settingEntry n index) (now (result .entry)) (now (result .exit)) (now (work .entry)) (now (work .exit)) (now (answer .entry)) (now (answer .exit)) r ⌝ }
 {
     if answer.len() < 5 {
         numbers::clear(work);
         return 16;
     }
-    let a = tomography::library::local_pauli_setting(n, index, result, work);
-    put_library(a, answer)
+    let a = library::local_pauli_setting(n, index, result, work);
+    put_answer(a, answer)
+}
+
+// A transfer matrix of 4^n by 4^n values applied to 4^n expectations.
+#[no_mangle]
+pub extern "C" fn mintshuttle_apply<'a>(
+    n: u64,
+    values: &'a [f64],
+    input: &'a [f64],
+    result: &mut [u64],
+    work: &mut [f64],
+    answer: &mut [u64],
+) -> u64
+    ensures { λ r. ⌜ Exported (applyEntry n (now (values .entry)) (now (input .entry))) (now (result .entry)) (now (result .exit)) (now (work .entry)) (now (work .exit)) (now (answer .entry)) (now (answer .exit)) r ⌝ }
+{
+    if answer.len() < 5 {
+        numbers::clear(work);
+        return 16;
+    }
+    let a = library::apply_expectations(n, values, input, result, work);
+    put_answer(a, answer)
 }
 
 // What the reader says of a card, of any kind of document 01: whether it would be refused by its layout alone.

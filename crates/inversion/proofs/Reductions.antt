@@ -10,11 +10,13 @@ use lib.Ieee.{Float}
 use Rattle.lists.specs.Build.{over}
 use Rattle.lists.specs.Fold.{fold}
 use Rattle.lists.proofs.Choices.{yes, no}
-use Rattle.numbers.specs.Number.{zeroF, _*ᶠ_, abs, finite}
+use Rattle.numbers.specs.Number.{zeroF, _*ᶠ_, finite}
 use Rattle.numbers.specs.Slice.{at}
 use Rattle.numbers.proofs.Leaves.{clash}
 use Rattle.elimination.specs.Rows.{clearedBy}
-use Rattle.inversion.specs.Inversion.{besideIdentity, scaleOf, pivotRow, Reduction, rows, singular, columnReduced, reductionOf, isReduced, rightOf, rightHalves, invertible, inverseOf, reductionIn}
+use Rattle.pivots.specs.Pivots.{scaleOf, magnitude, pivotRow}
+use Rattle.inversion.specs.Inversion.{besideIdentity, Reduction, rows, singular, columnReduced, reductionOf, isReduced, rightOf, rightHalves, invertible, inverseOf, reductionIn}
+use Rattle.pivots.proofs.Sizes.{same-limit}
 use Rattle.inversion.proofs.Halves.{length-right}
 
 -- column k of a reduction that has come to the rows l, or has ended
@@ -23,15 +25,15 @@ module _ (n : ℕ) (limit : Float) (k : ℕ) (l : List Float) (going : Bool) whe
   unfolding columnReduced
   has-ended g = rw g
 
-  pub ends-here : (p : ℕ) (x : Float) → going ≡ true → p ≡ pivotRow n (2 * n) k l → x ≡ abs (at l (p * (2 * n) + k)) → Ieee.le x limit ≡ true
+  pub ends-here : (p : ℕ) (x : Float) → going ≡ true → p ≡ pivotRow n (2 * n) k l → x ≡ magnitude (at l (p * (2 * n) + k)) → Ieee.le x limit ≡ true
       → singular ≡ columnReduced n limit k (reductionIn going l)
   unfolding columnReduced
-  ends-here p x g q e t = rw (g, ← q, ← e, t)
+  ends-here p x g q e t = rw (g, ← q, ← same-limit, ← e, t)
 
-  pub goes-on : (p : ℕ) (x : Float) (m : List Float) → going ≡ true → p ≡ pivotRow n (2 * n) k l → x ≡ abs (at l (p * (2 * n) + k)) → Ieee.le x limit ≡ false
+  pub goes-on : (p : ℕ) (x : Float) (m : List Float) → going ≡ true → p ≡ pivotRow n (2 * n) k l → x ≡ magnitude (at l (p * (2 * n) + k)) → Ieee.le x limit ≡ false
       → m ≡ clearedBy n (2 * n) k p l → rows m ≡ columnReduced n limit k (reductionIn going l)
   unfolding columnReduced
-  goes-on p x m g q e t c = rw (g, ← q, ← e, t, c)
+  goes-on p x m g q e t c = rw (g, ← q, ← same-limit, ← e, t, c)
 
 -- the tests of the scale s
 module _ (n : ℕ) (threshold : Float) (a : List Float) (s : Float) (e : s ≡ scaleOf (n * n) a) where

@@ -1,6 +1,6 @@
 -- The inverse of a real n by n matrix by Gauss-Jordan elimination with partial pivoting (Golub and Van Loan, section 3.4), and with document 01's rule
 -- for pivots and the Rust's threshold. The matrix lies by rows. It is reduced beside the identity, in rows of 2n numbers.
-use Prim.Native.Nat.{ℕ, _+_, _*_, _-_, _/_, _%_}
+use Prim.Native.Nat.{ℕ, _+_, _*_, _/_, _%_}
 use mathlib.Core.Bool.{Bool, true, false, not, cond}
 use mathlib.Core.List.{List, []}
 use lib.Dec.{eqb, ltb}
@@ -8,9 +8,10 @@ use lib.Ieee as Ieee
 use lib.Ieee.{Float}
 use Rattle.lists.specs.Build.{build}
 use Rattle.lists.specs.Fold.{fold}
-use Rattle.numbers.specs.Number.{zeroF, oneF, _*ᶠ_, abs, max, finite, precedes}
+use Rattle.numbers.specs.Number.{zeroF, oneF, _*ᶠ_, finite}
 use Rattle.numbers.specs.Slice.{at}
 use Rattle.elimination.specs.Rows.{clearedBy}
+use Rattle.pivots.specs.Pivots.{scaleOf, sizeAt, pivotRow}
 
 -- entry j of row i of the matrix beside the identity
 unfoldable pub besideAt : ℕ → List Float → ℕ → ℕ → Float
@@ -19,22 +20,6 @@ besideAt n a i j = cond (ltb j n) (at a (i * n + j)) (cond (eqb j (n + i)) oneF 
 -- the matrix beside the identity, by rows
 unfoldable pub besideIdentity : ℕ → List Float → List Float
 besideIdentity n a = build (n * (2 * n)) (λ z. besideAt n a (z / (2 * n)) (z % (2 * n)))
-
--- the largest size of m numbers
-unfoldable pub scaleOf : ℕ → List Float → Float
-scaleOf m a = fold m (λ k s. max s (abs (at a k))) zeroF
-
--- the size of entry k of row i
-abbrev pub sizeAt : ℕ → ℕ → List Float → ℕ → Float
-sizeAt w k l i = abs (at l (i * w + k))
-
--- of the rows p and i the one with the larger entry k, and i where they are equal
-unfoldable pub largerRow : ℕ → ℕ → List Float → ℕ → ℕ → ℕ
-largerRow w k l p i = cond (precedes (sizeAt w k l i) (sizeAt w k l p)) p i
-
--- the pivot's row in column k: of rows k to n - 1 the one with the largest entry k, the last on ties
-unfoldable pub pivotRow : ℕ → ℕ → ℕ → List Float → ℕ
-pivotRow n w k l = fold (n - k) (λ t p. largerRow w k l p (k + t)) k
 
 -- how far the reduction came: its rows, or that a pivot was too small
 pub data Reduction : Type 0 where

@@ -1,37 +1,22 @@
-// The inverse of a real matrix by Gauss-Jordan elimination.
+// The inverse of a real matrix by Gauss-Jordan elimination. The size of two qubits, 16, is passed on as a constant, for the compiler.
 ghost use mathlib.Core.Path.{_≡_};
 ghost use mathlib.Core.Bool.{cond};
 ghost use mathlib.Core.List.{_++_};
 ghost use Prim.Native.Nat.{_+_, _*_, _≤_, _<_};
+ghost use lib.Dec.{eqb};
 ghost use lib.ListN.{length, drop};
 ghost use Rattle.lists.specs.Build.{build, over};
 ghost use Rattle.lists.specs.Fold.{fold};
-ghost use Rattle.inversion.specs.Inversion.{besideAt, besideIdentity, scaleOf, sizeAt, pivotRow, rows, columnReduced, reductionIn, rightHalves, invertible, inverseOf};
+ghost use Rattle.numbers.specs.Number.{zeroF, oneF};
+ghost use Rattle.inversion.specs.Inversion.{besideAt, besideIdentity, rows, columnReduced, reductionIn, rightHalves, invertible, inverseOf};
 
-// The largest size of the first m numbers.
-fn scale_of(a: &[f64], m: usize) -> f64
-    requires { ⌜ m ≤ length (now a) ⌝ }
-    ensures { λ r. ⌜ r ≡ scaleOf m (now (a .entry)) ⌝ }
+// Row i of the identity.
+fn unit_row(row: &mut [f64], i: usize)
+    requires { ⌜ i < length (now row) ⌝ }
+    ensures { λ _. ⌜ now (row .exit) ≡ build (length (now (row .entry))) (λ j. cond (eqb j i) oneF zeroF) ⌝ }
 {
-    let mut s = 0.0;
-    for k in 0..m {
-        s = numbers::max_of(s, numbers::abs_of(a[k]));
-    }
-    s
-}
-
-// Entry j of row i of the matrix beside the identity.
-fn beside_at(a: &[f64], n: usize, i: usize, j: usize) -> f64
-    requires { ⌜ (n ≤ 16) × (i < n) × (j < 2 * n) × (n * n ≤ length (now a)) ⌝ }
-    ensures { λ r. ⌜ r ≡ besideAt n (now (a .entry)) i j ⌝ }
-{
-    if j < n {
-        return a[i * n + j];
-    }
-    if j == n + i {
-        return 1.0;
-    }
-    0.0
+    numbers::clear(row);
+    row[i] = 1.0;
 }
 
 // Row i of the matrix beside the identity.
@@ -39,10 +24,10 @@ fn beside_row(a: &[f64], n: usize, i: usize, row: &mut [f64])
     requires { ⌜ (n ≤ 16) × (i < n) × (n * n ≤ length (now a)) × (length (now row) ≡ 2 * n) ⌝ }
     ensures { λ _. ⌜ now (row .exit) ≡ build (2 * n) (besideAt n (now (a .entry)) i) ⌝ }
 {
-    let w = row.len();
-    for j in 0..w {
-        row[j] = beside_at(a, n, i, j);
-    }
+    let start = i * n;
+    let end = start + n;
+    elimination::put_row(&mut row[..n], &a[start..end]);
+    unit_row(&mut row[n..], i);
 }
 
 // The matrix beside the identity, row by row: each row is lent as a part of the work slice.
@@ -58,49 +43,6 @@ fn beside_identity(a: &[f64], n: usize, work: &mut [f64])
     }
 }
 
-// The size of entry k of row i.
-fn size_at(work: &[f64], n: usize, w: usize, k: usize, i: usize) -> f64
-    requires { ⌜ (k < w) × (i < n) × (n * w ≤ length (now work)) ⌝ }
-    ensures { λ r. ⌜ r ≡ sizeAt w k (now (work .entry)) i ⌝ }
-{
-    numbers::abs_of(work[i * w + k])
-}
-
-fn picked_row(keep: bool, p: usize, i: usize) -> usize
-    ensures { λ r. ⌜ r ≡ cond keep p i ⌝ }
-{
-    if keep {
-        return p;
-    }
-    i
-}
-
-fn picked_size(keep: bool, x: f64, y: f64) -> f64
-    ensures { λ r. ⌜ r ≡ cond keep x y ⌝ }
-{
-    if keep {
-        return x;
-    }
-    y
-}
-
-// The pivot's row in column k. The loop carries the row of the largest entry so far with that entry's size.
-fn pivot_row(work: &[f64], n: usize, w: usize, k: usize) -> usize
-    requires { ⌜ (k < n) × (k < w) × (n * w ≤ length (now work)) ⌝ }
-    ensures { λ r. ⌜ (r ≡ pivotRow n w k (now (work .entry))) × (r < n) ⌝ }
-{
-    let m = n - k;
-    let mut p = k;
-    let mut size = size_at(work, n, w, k, k);
-    for t in 0..m {
-        let x = size_at(work, n, w, k, k + t);
-        let keep = numbers::comes_before(x, size);
-        p = picked_row(keep, p, k + t);
-        size = picked_size(keep, size, x);
-    }
-    p
-}
-
 // Clears column k, unless the reduction has ended or ends here.
 fn reduce_column(work: &mut [f64], n: usize, k: usize, limit: f64, going: bool) -> bool
     requires { ⌜ (n ≤ 16) × (k < n) × (n * (2 * n) ≤ length (now work)) ⌝ }
@@ -110,8 +52,8 @@ fn reduce_column(work: &mut [f64], n: usize, k: usize, limit: f64, going: bool) 
         return false;
     }
     let w = 2 * n;
-    let p = pivot_row(work, n, w, k);
-    if size_at(work, n, w, k, p) <= limit {
+    let p = pivots::pivot_row(work, n, w, k);
+    if pivots::size_at(work, n, w, k, p) <= limit {
         return false;
     }
     elimination::clear_column(work, n, w, k, p);
@@ -151,7 +93,7 @@ fn invert_within(a: &[f64], n: usize, threshold: f64, work: &mut [f64], out: &mu
     requires { ⌜ (n ≤ 16) × (n * n ≤ length (now a)) × (n * (2 * n) ≤ length (now work)) × (n * n ≤ length (now out)) ⌝ }
     ensures { λ r. ⌜ (r ≡ invertible n threshold (now (a .entry))) × (now (out .exit) ≡ over (inverseOf n threshold (now (a .entry))) (now (out .entry))) ⌝ }
 {
-    let scale = scale_of(a, n * n);
+    let scale = pivots::scale_of(a, n * n);
     if scale == 0.0 {
         return false;
     }
@@ -167,8 +109,14 @@ fn invert_within(a: &[f64], n: usize, threshold: f64, work: &mut [f64], out: &mu
     true
 }
 
-// Room for the rows of 16 by 16, each beside the identity's.
-fn reduction_room() -> [f64; 512]
+// Room for the rows of 4 by 4, and of 16 by 16, each beside the identity's.
+fn small_room() -> [f64; 32]
+    ensures { λ r. ⌜ 32 ≡ length r ⌝ }
+{
+    [0.0; 32]
+}
+
+fn room() -> [f64; 512]
     ensures { λ r. ⌜ 512 ≡ length r ⌝ }
 {
     [0.0; 512]
@@ -179,6 +127,13 @@ pub fn invert(a: &[f64], n: usize, threshold: f64, out: &mut [f64]) -> bool
     requires { ⌜ (n ≤ 16) × (n * n ≤ length (now a)) × (n * n ≤ length (now out)) ⌝ }
     ensures { λ r. ⌜ (r ≡ invertible n threshold (now (a .entry))) × (now (out .exit) ≡ over (inverseOf n threshold (now (a .entry))) (now (out .entry))) ⌝ }
 {
-    let mut work = reduction_room();
+    if n <= 4 {
+        let mut few = small_room();
+        return invert_within(a, n, threshold, &mut few, out);
+    }
+    let mut work = room();
+    if n == 16 {
+        return invert_within(a, 16, threshold, &mut work, out);
+    }
     invert_within(a, n, threshold, &mut work, out)
 }

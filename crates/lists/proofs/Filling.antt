@@ -9,7 +9,7 @@ use lib.Dec.{eqb}
 use borrow.Author.Tests.{eqb-true, eqb-false}
 use mathlib.Core.Bool.{Bool, true, false}
 use lib.ListN.{length, take, drop, getD, set, length-append, length-take, length-drop, length-set, drop-of-length-le}
-use lib.Seq.{drop-cons, set-at, take-at, getD-at, getD-take, getD-drop, getD-set-same, getD-set-other, ext-getD}
+use lib.Seq.{drop-cons, set-at, take-at, take-take, getD-at, getD-take, getD-drop, getD-set-same, getD-set-other, ext-getD}
 use Rattle.lists.specs.Build.{from, build, over}
 use Rattle.lists.specs.Part.{part}
 
@@ -69,6 +69,16 @@ module _ {A : Type 0} where
       let q : i < n = omega (arith, length-build n (λ i. getD l (a + i) z)) in
       getD-build z n i _ q ∙ sym (getD-take n (drop a l) i z q ∙ getD-drop a l i z))
 
+  -- the front of a list is built of its entries
+  pub build-front : (z : A) (n : ℕ) (l : List A) → n ≤ length l → build n (λ i. getD l i z) ≡ take n l
+  build-front z n l h =
+      build-same n _ (λ i. getD l (0 + i) z) (λ j _. ap (λ (i : ℕ). getD l i z) (sym (zero-add j))) ∙ build-part z 0 n l (omega arith)
+
+  -- a list that was written over with the part `f..u` of l, lent
+  pub lent-copy : (z : A) (c n f u : ℕ) (l ys : List A) → c ≡ n → u ≡ f + n → u ≤ length l → ys ≡ take c (take (u - f) (drop f l)) → ys ≡ build n (λ j. getD l (f + j) z)
+  lent-copy z c n f u l ys h k b y =
+      y ∙ ap (λ (c : ℕ). take c (take (u - f) (drop f l))) h ∙ take-take n (u - f) (drop f l) (omega arith) ∙ sym (build-part z f n l (omega arith))
+
   pub build-all : (z : A) (l : List A) → build (length l) (λ i. getD l i z) ≡ l
   build-all z l =
       ext-getD z (build (length l) (λ i. getD l i z)) l (length-build (length l) (λ i. getD l i z))
@@ -121,6 +131,21 @@ module _ {A : Type 0} where
   fill-next z f d i out h e =
       ap (λ (l : List A). getD l i z) (e ∙ ap (λ (l : List A). build i f ++ l) (drop-cons d i z h))
       ∙ getD-at (build i f) (getD d i z) (drop (suc i) d) z i (length-build i f)
+
+  -- ---- A loop that puts each entry of d through g, in its place
+  abbrev pub mapped : A → (ℕ → A → A) → List A → ℕ → A
+  mapped z g d j = g j (getD d j z)
+
+  pub map-more : (z : A) (g : ℕ → A → A) (d : List A) (i : ℕ) (out : List A) (v : A) → i < length d → Filled (mapped z g d) d i out → v ≡ g i (getD out i z)
+      → Filled (mapped z g d) d (i + 1) (set out i v)
+  map-more z g d i out v h e k = fill-more (mapped z g d) d i out v h e (k ∙ ap (g i) (fill-next z (mapped z g d) d i out h e))
+
+  -- ---- A loop that copies s, from its entry a on, over the first n entries of d; or s over all of d
+  pub copy-end : (z : A) (a n i : ℕ) (s d out : List A) → a + n ≤ length s → i ≡ n → Filled (λ j. getD s (a + j) z) d i out → out ≡ part a n s ++ drop n d
+  copy-end z a n i s d out h k e = fill-end _ d i n out k e ∙ ap (λ (l : List A). l ++ drop n d) (build-part z a n s h)
+
+  pub copy-all : (z : A) (i : ℕ) (s d out : List A) → length d ≤ length s → i ≡ length d → Filled (λ j. getD s j z) d i out → out ≡ take (length d) s
+  copy-all z i s d out h k e = fill-all _ d i out k e ∙ build-front z (length d) s h
 
   -- a filled front, as `over` says it
   pub over-build : (n : ℕ) (f : ℕ → A) (d : List A) → over (build n f) d ≡ build n f ++ drop n d

@@ -1,5 +1,6 @@
 pub mod Choices
 pub mod Filling
 pub mod Folding
+pub mod Joined
 pub mod Parts
 pub mod Rows

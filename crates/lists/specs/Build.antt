@@ -16,3 +16,8 @@ module _ {A : Type 0} where
   -- the front of the list l written over with `out`
   abbrev pub over : List A → List A → List A
   over out l = out ++ drop (length out) l
+
+  -- f 0, then f 1, .. then f (n - 1), one list after the other
+  unfoldable pub joined : ℕ → (ℕ → List A) → List A
+  joined zero f = []
+  joined (suc n) f = joined n f ++ f n

@@ -1,8 +1,9 @@
-// Products of vectors and matrices that lie by rows in slices of numbers.
+// Products of vectors and matrices that lie by rows in slices of numbers. Each is written once, for every size. The sizes of one and two qubits, 4 and 16,
+// are passed on as constants, so that the compiler unrolls their loops and keeps a row in registers.
 ghost use mathlib.Core.Path.{_≡_};
 ghost use mathlib.Core.List.{_++_};
 ghost use Prim.Native.Nat.{_+_, _*_, _≤_};
-ghost use lib.ListN.{length, drop};
+ghost use lib.ListN.{length, take, drop};
 ghost use Rattle.lists.specs.Build.{build};
 ghost use Rattle.numbers.specs.Number.{minusZeroF, _+ᶠ_, _*ᶠ_};
 ghost use Rattle.numbers.specs.Slice.{at};
@@ -21,8 +22,8 @@ pub fn dot(a: &[f64], b: &[f64]) -> f64
     s
 }
 
-// The matrix a times the column x, into the first n numbers of `out`.
-pub fn mat_vec(a: &[f64], x: &[f64], n: usize, out: &mut [f64])
+// Row after row of a, times x.
+fn mat_vec_of(a: &[f64], x: &[f64], n: usize, out: &mut [f64])
     requires { ⌜ (n ≤ 16) × (n * n ≤ length (now a)) × (n ≤ length (now x)) × (n ≤ length (now out)) ⌝ }
     ensures { λ _. ⌜ now (out .exit) ≡ matVecOf n (now (a .entry)) (now (x .entry)) ++ drop n (now (out .entry)) ⌝ }
 {
@@ -31,6 +32,22 @@ pub fn mat_vec(a: &[f64], x: &[f64], n: usize, out: &mut [f64])
         let end = start + n;
         out[i] = dot(&a[start..end], x);
     }
+}
+
+// The matrix a times the column x, into the first n numbers of `out`.
+pub fn mat_vec(a: &[f64], x: &[f64], n: usize, out: &mut [f64])
+    requires { ⌜ (n ≤ 16) × (n * n ≤ length (now a)) × (n ≤ length (now x)) × (n ≤ length (now out)) ⌝ }
+    ensures { λ _. ⌜ now (out .exit) ≡ matVecOf n (now (a .entry)) (now (x .entry)) ++ drop n (now (out .entry)) ⌝ }
+{
+    if n == 16 {
+        mat_vec_of(a, x, 16, out);
+        return;
+    }
+    if n == 4 {
+        mat_vec_of(a, x, 4, out);
+        return;
+    }
+    mat_vec_of(a, x, n, out);
 }
 
 // Sets every number of the row to -0, where sums start.
@@ -67,22 +84,75 @@ fn add_rows(x: &[f64], a: &[f64], n: usize, row: &mut [f64])
     }
 }
 
+// Writes the row over with the front of `from`.
+fn put_row(row: &mut [f64], from: &[f64])
+    requires { ⌜ length (now row) ≤ length (now from) ⌝ }
+    ensures { λ _. ⌜ now (row .exit) ≡ take (length (now (row .entry))) (now (from .entry)) ⌝ }
+{
+    let w = row.len();
+    for j in 0..w {
+        row[j] = from[j];
+    }
+}
+
+// The same, with the sums in a local array, which no other slice overlaps.
+fn sum_rows(x: &[f64], a: &[f64], n: usize, row: &mut [f64])
+    requires { ⌜ (n ≤ 16) × (n ≤ length (now x)) × (n * n ≤ length (now a)) × (length (now row) ≡ n) ⌝ }
+    ensures { λ _. ⌜ now (row .exit) ≡ rowMatOf n (now (x .entry)) (now (a .entry)) ⌝ }
+{
+    let mut sums = [0.0f64; 16];
+    add_rows(x, a, n, &mut sums[..n]);
+    put_row(row, &sums);
+}
+
+// The same, by size.
+fn row_mat_of(x: &[f64], a: &[f64], n: usize, row: &mut [f64])
+    requires { ⌜ (n ≤ 16) × (n ≤ length (now x)) × (n * n ≤ length (now a)) × (length (now row) ≡ n) ⌝ }
+    ensures { λ _. ⌜ now (row .exit) ≡ rowMatOf n (now (x .entry)) (now (a .entry)) ⌝ }
+{
+    if n == 16 {
+        sum_rows(x, a, 16, row);
+        return;
+    }
+    if n == 4 {
+        sum_rows(x, a, 4, row);
+        return;
+    }
+    sum_rows(x, a, n, row);
+}
+
 // The row x times the matrix a, into the first n numbers of `out`.
 pub fn row_mat(x: &[f64], a: &[f64], n: usize, out: &mut [f64])
     requires { ⌜ (n ≤ 16) × (n ≤ length (now x)) × (n * n ≤ length (now a)) × (n ≤ length (now out)) ⌝ }
     ensures { λ _. ⌜ now (out .exit) ≡ rowMatOf n (now (x .entry)) (now (a .entry)) ++ drop n (now (out .entry)) ⌝ }
 {
-    add_rows(x, a, n, &mut out[..n]);
+    row_mat_of(x, a, n, &mut out[..n]);
 }
 
-// The product of the matrices a and b, row by row, into the first n * n numbers of `out`.
-pub fn mat_mul(a: &[f64], b: &[f64], n: usize, out: &mut [f64])
+// Row after row of a, times b.
+fn mat_mul_of(a: &[f64], b: &[f64], n: usize, out: &mut [f64])
     requires { ⌜ (n ≤ 16) × (n * n ≤ length (now a)) × (n * n ≤ length (now b)) × (n * n ≤ length (now out)) ⌝ }
     ensures { λ _. ⌜ now (out .exit) ≡ matMulOf n (now (a .entry)) (now (b .entry)) ++ drop (n * n) (now (out .entry)) ⌝ }
 {
     for i in 0..n {
         let start = i * n;
         let end = start + n;
-        add_rows(&a[start..end], b, n, &mut out[start..end]);
+        sum_rows(&a[start..end], b, n, &mut out[start..end]);
     }
+}
+
+// The product of the matrices a and b, into the first n * n numbers of `out`.
+pub fn mat_mul(a: &[f64], b: &[f64], n: usize, out: &mut [f64])
+    requires { ⌜ (n ≤ 16) × (n * n ≤ length (now a)) × (n * n ≤ length (now b)) × (n * n ≤ length (now out)) ⌝ }
+    ensures { λ _. ⌜ now (out .exit) ≡ matMulOf n (now (a .entry)) (now (b .entry)) ++ drop (n * n) (now (out .entry)) ⌝ }
+{
+    if n == 16 {
+        mat_mul_of(a, b, 16, out);
+        return;
+    }
+    if n == 4 {
+        mat_mul_of(a, b, 4, out);
+        return;
+    }
+    mat_mul_of(a, b, n, out);
 }

@@ -13,7 +13,7 @@ use Rattle.numbers.specs.Slice.{at, numberAt, numbersAt, allFinite}
 use Rattle.refusal.specs.declared.Refusal.the-variants.{Shape, NonFinite, InvalidGstOptimization}
 use Rattle.card_layout.specs.declared.Header.{Header}
 use Rattle.card_parts.specs.Model.{stateOf}
-use Rattle.model.specs.declared.Checked.the-variants.{Good, Refused}
+use Rattle.refusal.specs.declared.Verdict.the-variants.{Good, Refused}
 use Rattle.model.specs.Checked.{anyOf, badName, badGate, checkedOf}
 
 module _ (b : Bool) (p : ℕ → Bool) where

@@ -8,8 +8,8 @@ use Rattle.numbers.specs.Slice.{allFinite}
 use Rattle.refusal.specs.declared.Refusal.the-variants.{Shape, NonFinite, InvalidGstOptimization}
 use Rattle.card_layout.specs.declared.Header.{Header}
 use Rattle.card_parts.specs.Model.{stateOf, effectOf, gateOf, nameOf}
-use Rattle.model.specs.declared.Checked.{Checked}
-use Rattle.model.specs.declared.Checked.the-variants.{Good, Refused}
+use Rattle.refusal.specs.declared.Verdict.{Verdict}
+use Rattle.refusal.specs.declared.Verdict.the-variants.{Good, Refused}
 
 -- b, or p of some index below n
 unfoldable pub anyOf : Bool → ℕ → (ℕ → Bool) → Bool
@@ -27,7 +27,7 @@ abbrev pub badGate : List ℕ → Header → Bool
 badGate s h = anyOf (badEffect s h) (h .gates) (λ g. not (allFinite (gateOf s h g)))
 
 -- no state or one that is not finite; no effects; other numbers that are not finite; names
-unfoldable pub checkedOf : List ℕ → Header → Checked
+unfoldable pub checkedOf : List ℕ → Header → Verdict
 checkedOf s h =
     cond (eqb (h .dimension) 0) (Refused NonFinite)
     (cond (not (allFinite (stateOf s h))) (Refused NonFinite)

@@ -5,8 +5,9 @@ use card_parts::name_of;
 use card_places::effect_at;
 use card_places::gate_at;
 use card_places::model_at;
-use card_places::square;
 use refusal::Refusal;
+use refusal::Verdict;
+use sizes::square;
 ghost use mathlib.Core.Path.{_≡_};
 ghost use Prim.Native.Nat.{ℕ, _+_, _*_, _≤_, _<_};
 ghost use lib.ListN.{length};
@@ -14,11 +15,6 @@ ghost use Rattle.numbers.specs.Slice.{numbersAt, allFinite};
 ghost use Rattle.card_places.specs.Shape.{Shaped};
 ghost use Rattle.model.specs.Checked.{badName, badEffect, badGate, anyOf, checkedOf};
 ghost use mathlib.Core.Bool.{false, not};
-
-pub enum Checked {
-    Good,
-    Refused(Refusal),
-}
 
 // Whether the n numbers from word `from` on are finite.
 pub fn are_finite(card: &[u8], from: usize, n: usize) -> bool
@@ -86,29 +82,29 @@ fn bad_names(card: &[u8], h: Header) -> bool
 }
 
 // The Rust's `GateSetModel::try_new`.
-pub fn check_model(card: &[u8], h: Header) -> Checked
+pub fn check_model(card: &[u8], h: Header) -> Verdict
     requires { ⌜ Shaped (now card) h × (5 ≤ h .kind) ⌝ }
     ensures { λ r. ⌜ r ≡ checkedOf (now (card .entry)) h ⌝ }
 {
     let d = h.dimension;
     let effects = h.effects;
     if d == 0 {
-        return Checked::Refused(Refusal::NonFinite);
+        return Verdict::Refused(Refusal::NonFinite);
     }
     if !are_finite(card, model_at(h), d) {
-        return Checked::Refused(Refusal::NonFinite);
+        return Verdict::Refused(Refusal::NonFinite);
     }
     if effects == 0 {
-        return Checked::Refused(Refusal::Shape {
+        return Verdict::Refused(Refusal::Shape {
             expected: d as u64,
             actual: 0,
         });
     }
     if bad_gate(card, h) {
-        return Checked::Refused(Refusal::NonFinite);
+        return Verdict::Refused(Refusal::NonFinite);
     }
     if bad_names(card, h) {
-        return Checked::Refused(Refusal::InvalidGstOptimization(6));
+        return Verdict::Refused(Refusal::InvalidGstOptimization(6));
     }
-    Checked::Good
+    Verdict::Good
 }

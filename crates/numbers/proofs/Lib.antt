@@ -1,3 +1,4 @@
 pub mod Leaves
 pub mod Finite
 pub mod Slices
+pub mod Shifts

@@ -15,14 +15,19 @@ fn byte(card: &[u8], i: usize) -> u64
     card[i] as u64
 }
 
-// Four bytes, the highest first.
+// Two bytes, the highest first. Shifts and ors, which the compiler makes one load.
+fn pair_at(card: &[u8], b: usize) -> u64
+    requires { ⌜ b + 2 ≤ length (now card) ⌝ }
+    ensures { λ r. ⌜ (r ≡ getD (now (card .entry)) b 0 * 256 + getD (now (card .entry)) (b + 1) 0) × (r < 65536) ⌝ }
+{
+    (byte(card, b) << 8) | byte(card, b + 1)
+}
+
 fn half_at(card: &[u8], b: usize) -> u64
     requires { ⌜ b + 4 ≤ length (now card) ⌝ }
     ensures { λ r. ⌜ (r ≡ ((getD (now (card .entry)) b 0 * 256 + getD (now (card .entry)) (b + 1) 0) * 256 + getD (now (card .entry)) (b + 2) 0) * 256 + getD (now (card .entry)) (b + 3) 0) × (r < 4294967296) ⌝ }
 {
-    let high = byte(card, b) * 256 + byte(card, b + 1);
-    let low = byte(card, b + 2) * 256 + byte(card, b + 3);
-    high * 65536 + low
+    (pair_at(card, b) << 16) | pair_at(card, b + 2)
 }
 
 // Word number `place` of the card.
@@ -31,7 +36,7 @@ pub fn word_at(card: &[u8], place: usize) -> u64
     ensures { λ r. ⌜ r ≡ wordAt (now (card .entry)) place ⌝ }
 {
     let b = place * 8;
-    half_at(card, b) * 4294967296 + half_at(card, b + 4)
+    (half_at(card, b) << 32) | half_at(card, b + 4)
 }
 
 // The number that a word holds. Every NaN pattern gives a NaN.

@@ -24,7 +24,8 @@ use Rattle.rounding.proofs.Zeros.{zero-times, add-nothing, add-plain, finite-ov
 use Rattle.pauli.specs.Exact.{Gaussian, none, stringEntry}
 use Rattle.pauli.specs.Entry.{filledColumn, filledPower, powerOfI, filledPlace, unitOf, withEntry, AllPlain}
 use Rattle.pauli.specs.Density.{partOf, stringPart, pinned, weight, densityPart, withString, densityOf, testedOf}
-use Rattle.pauli.specs.declared.Inverted.the-variants.{Density, Refused}
+use Rattle.refusal.specs.declared.Verdict.{Verdict}
+use Rattle.refusal.specs.Verdicts.{finiteOr}
 use Rattle.refusal.specs.declared.Refusal.the-variants.{Operator}
 use Rattle.lists.proofs.Choices.{yes, no}
 use Rattle.pauli.proofs.Digits.{power-small}
@@ -278,10 +279,6 @@ pub room : (n d k : ℕ) → d ≡ 2 ^ n → 2 * (2 ^ n * 2 ^ n) ≤ k → 2 * (
 room n d k e h = subst (λ (x : ℕ). 2 * (x * x) ≤ k) (sym e) h
 
 -- the outcome, from the test of the front of the slice
-pub tested-yes : (n d : ℕ) (es front : List Float) (b : Bool) → d ≡ 2 ^ n → front ≡ densityOf n es → b ≡ allFinite front → b ≡ true → Density d ≡ testedOf n es
+pub tested : (n : ℕ) (es front : List Float) (v : Verdict) → front ≡ densityOf n es → v ≡ finiteOr Operator front → v ≡ testedOf n es
 unfolding testedOf
-tested-yes n d es front b e f g h = ap Density e ∙ yes (Refused Operator) (ap allFinite (sym f) ∙ sym g ∙ h)
-
-pub tested-no : (n : ℕ) (es front : List Float) (b : Bool) → front ≡ densityOf n es → b ≡ allFinite front → b ≡ false → Refused Operator ≡ testedOf n es
-unfolding testedOf
-tested-no n es front b f g h = no (Density (2 ^ n)) (ap allFinite (sym f) ∙ sym g ∙ h) refl
+tested n es front v f g = g ∙ ap (finiteOr Operator) f

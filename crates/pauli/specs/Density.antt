@@ -13,10 +13,9 @@ use Rattle.numbers.specs.Slice.{at, allFinite}
 use Rattle.refusal.specs.declared.Refusal.{Refusal}
 use Rattle.refusal.specs.declared.Refusal.the-variants.{NonFinite, InvalidNormalization, InvalidTolerance, Operator}
 use Rattle.pauli.specs.Exact.{Gaussian, stringEntry}
-use Rattle.pauli.specs.declared.Vetted.{Vetted}
-use Rattle.pauli.specs.declared.Vetted.the-variants as vetted
-use Rattle.pauli.specs.declared.Inverted.{Inverted}
-use Rattle.pauli.specs.declared.Inverted.the-variants.{Density, Refused}
+use Rattle.refusal.specs.declared.Verdict.{Verdict}
+use Rattle.refusal.specs.declared.Verdict.the-variants.{Good, Refused}
+use Rattle.refusal.specs.Verdicts.{after, finiteOr}
 
 -- the real part (0) or the imaginary part (1) of an exact entry
 abbrev pub partOf : ℕ → Gaussian → ℤ
@@ -48,27 +47,22 @@ unfoldable pub densityOf : ℕ → List Float → List Float
 densityOf n es = build (2 * (2 ^ n * 2 ^ n)) (λ k. densityPart n es (k % 2) (k / 2 / 2 ^ n) (k / 2 % 2 ^ n))
 
 -- what the Rust tests of a vector of expectations, in its order: that all are finite, and that the identity's is near 1
-unfoldable pub vetOf : Float → List Float → Vetted
+unfoldable pub vetOf : Float → List Float → Verdict
 vetOf tolerance es =
-    cond (not (allFinite es)) (vetted.Refused NonFinite)
-    (cond (lt tolerance (abs (at es 0 -ᶠ oneF))) (vetted.Refused (InvalidNormalization (at es 0)))
-    vetted.Good)
-
--- what follows where a vector is good
-abbrev pub afterVet : {A : Type 0} → Vetted → (Refusal → A) → A → A
-afterVet (vetted.Refused r) refused next = refused r
-afterVet vetted.Good refused next = next
+    cond (not (allFinite es)) (Refused NonFinite)
+    (cond (lt tolerance (abs (at es 0 -ᶠ oneF))) (Refused (InvalidNormalization (at es 0)))
+    Good)
 
 -- what the Rust tests before it computes: the tolerance, then the expectations
 unfoldable pub admitted : {A : Type 0} → Float → List Float → (Refusal → A) → A → A
-admitted tolerance es refused next = cond (not (positive tolerance)) (refused InvalidTolerance) (afterVet (vetOf tolerance es) refused next)
+admitted tolerance es refused next = cond (not (positive tolerance)) (refused InvalidTolerance) (after (vetOf tolerance es) refused next)
 
 -- `Operator::try_new` refuses a part that is not finite
-unfoldable pub testedOf : ℕ → List Float → Inverted
-testedOf n es = cond (allFinite (densityOf n es)) (Density (2 ^ n)) (Refused Operator)
+unfoldable pub testedOf : ℕ → List Float → Verdict
+testedOf n es = finiteOr Operator (densityOf n es)
 
 -- the outcome
-abbrev pub invertedOf : ℕ → Float → List Float → Inverted
+abbrev pub invertedOf : ℕ → Float → List Float → Verdict
 invertedOf n tolerance es = admitted tolerance es Refused (testedOf n es)
 
 -- the numbers that a call computes: none where the expectations are not admitted

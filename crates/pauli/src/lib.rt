@@ -1,5 +1,7 @@
 // Pauli strings, and the linear inversion of their expectations (kind 1).
 use refusal::Refusal;
+use refusal::Verdict;
+use sizes::two_to;
 ghost use mathlib.Core.Path.{_≡_};
 ghost use mathlib.Core.Bool.{true, cond};
 ghost use mathlib.Core.List.{List};
@@ -11,17 +13,6 @@ ghost use Rattle.numbers.specs.Number.{finite, _+ᶠ_, _*ᶠ_};
 ghost use Rattle.numbers.specs.Slice.{at, allFinite};
 ghost use Rattle.pauli.specs.Entry.{flipped, turned, filledColumn, filledPower, unitOf, withEntry, AllPlain};
 ghost use Rattle.pauli.specs.Density.{weight, withString, densityOf, testedOf, vetOf, invertedOf, computedOf};
-
-// What the tests of a vector of expectations find.
-pub enum Vetted {
-    Good,
-    Refused(Refusal),
-}
-
-pub enum Inverted {
-    Density { dimension: u64 },
-    Refused(Refusal),
-}
 
 // The one entry of a string's row that is not zero: its column, and the power of i, 0 to 3, that it is.
 struct Filled {
@@ -129,64 +120,43 @@ fn density(n: usize, d: usize, es: &[f64], out: &mut [f64])
     }
 }
 
-fn two_to(n: usize) -> usize
-    requires { ⌜ n ≤ 3 ⌝ }
-    ensures { λ r. ⌜ (r ≡ 2 ^ n) × (r ≤ 8) ⌝ }
-{
-    if n == 0 {
-        return 1;
-    }
-    if n == 1 {
-        return 2;
-    }
-    if n == 2 {
-        return 4;
-    }
-    8
-}
-
 // The density matrix at the front of `out`, once the expectations are admitted.
-fn density_tested(n: usize, es: &[f64], out: &mut [f64]) -> Inverted
+fn density_tested(n: usize, es: &[f64], out: &mut [f64]) -> Verdict
     requires { ⌜ (n ≤ 3) × (length (now es) ≡ 4 ^ n) × (2 * (2 ^ n * 2 ^ n) ≤ length (now out)) × (allFinite (now es) ≡ true) ⌝ }
     ensures { λ r. ⌜ (r ≡ testedOf n (now (es .entry))) × (now (out .exit) ≡ over (densityOf n (now (es .entry))) (now (out .entry))) ⌝ }
 {
     let d = two_to(n);
     let m = 2 * (d * d);
     density(n, d, es, &mut out[..m]);
-    if numbers::all_finite(&out[..m]) {
-        return Inverted::Density {
-            dimension: d as u64,
-        };
-    }
-    Inverted::Refused(Refusal::Operator)
+    refusal::finite_or(Refusal::Operator, &out[..m])
 }
 
 // Tests a vector of expectations.
-pub fn vet(tolerance: f64, es: &[f64]) -> Vetted
+pub fn vet(tolerance: f64, es: &[f64]) -> Verdict
     requires { ⌜ 0 < length (now es) ⌝ }
     ensures { λ r. ⌜ r ≡ vetOf tolerance (now (es .entry)) ⌝ }
 {
     if !numbers::all_finite(es) {
-        return Vetted::Refused(Refusal::NonFinite);
+        return Verdict::Refused(Refusal::NonFinite);
     }
     let e = es[0];
     if numbers::abs_of(e - 1.0) > tolerance {
-        return Vetted::Refused(Refusal::InvalidNormalization(e));
+        return Verdict::Refused(Refusal::InvalidNormalization(e));
     }
-    Vetted::Good
+    Verdict::Good
 }
 
 // The Rust's `linear_inversion`. An accepted call leaves the density matrix at the front of `out`, real and imaginary part of each entry by rows.
-pub fn linear_inversion(n: usize, tolerance: f64, es: &[f64], out: &mut [f64]) -> Inverted
+pub fn linear_inversion(n: usize, tolerance: f64, es: &[f64], out: &mut [f64]) -> Verdict
     requires { ⌜ (n ≤ 3) × (length (now es) ≡ 4 ^ n) × (2 * (2 ^ n * 2 ^ n) ≤ length (now out)) ⌝ }
     ensures { λ r. ⌜ (r ≡ invertedOf n tolerance (now (es .entry))) × (now (out .exit) ≡ over (computedOf n tolerance (now (es .entry))) (now (out .entry))) ⌝ }
 {
     if !numbers::is_positive(tolerance) {
-        return Inverted::Refused(Refusal::InvalidTolerance);
+        return Verdict::Refused(Refusal::InvalidTolerance);
     }
     let found = vet(tolerance, es);
     match found {
-        Vetted::Refused(r) => Inverted::Refused(r),
-        Vetted::Good => density_tested(n, es, out),
+        Verdict::Refused(r) => Verdict::Refused(r),
+        Verdict::Good => density_tested(n, es, out),
     }
 }

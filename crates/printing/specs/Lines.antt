@@ -2,10 +2,22 @@
 use Prim.Native.Nat.{ℕ, _+_, _*_}
 use mathlib.Core.Bool.{cond, _&&_}
 use lib.Dec.{leb}
-use Rattle.tomography.specs.declared.Answer.{Answer}
-use Rattle.tomography.specs.declared.Answer.the-variants.{Density, Refused}
+use Rattle.outcome.specs.declared.Answer.{Answer}
+use Rattle.outcome.specs.declared.Answer.the-variants.{Density, Process, Model, Probes, Setting, Applied, Refused}
 
--- of a result of so many words; a matrix that the result cannot hold is not shown
+-- of a result of so many words: what it cannot hold is not shown
+abbrev pub wordLines : ℕ → ℕ → ℕ
+wordLines count words = cond (leb count words) (1 + count) 1
+
+-- a matrix of p rows, a line for each word
+abbrev pub squareLines : ℕ → ℕ → ℕ
+squareLines p words = cond (leb p 64) (wordLines (p * p) words) 1
+
 abbrev pub linesOf : Answer → ℕ → ℕ
 linesOf (Density d) words = cond (leb d 64 && leb (2 * (d * d)) words) (1 + d * d) 1
+linesOf (Process p) words = squareLines p words
+linesOf (Model w) words = wordLines w words
+linesOf (Probes p) words = squareLines p words
+linesOf (Setting n) words = wordLines n words
+linesOf (Applied p) words = wordLines p words
 linesOf (Refused r) words = 1

@@ -1,6 +1,7 @@
 // Refusals, in document 01's sense: the cases of the Rust's `TomographyError`, and those that the card adds. Each has a number N and two values A and B.
 ghost use mathlib.Core.Path.{_≡_};
 ghost use Rattle.refusal.specs.Values.{codeOf, valueA, valueB};
+ghost use Rattle.refusal.specs.Verdicts.{firstOf, finiteOr, checkedNumbers};
 
 pub enum Refusal {
     InvalidQubits,
@@ -26,6 +27,46 @@ pub enum Refusal {
     InvalidCard(u64),
     // Too short a result or work slice.
     ShortBuffer,
+}
+
+// What the tests of something find: nothing amiss, or a refusal.
+pub enum Verdict {
+    Good,
+    Refused(Refusal),
+}
+
+// The first of two verdicts that refuses.
+pub fn first_of(a: Verdict, b: Verdict) -> Verdict
+    ensures { λ r. ⌜ r ≡ firstOf a b ⌝ }
+{
+    match a {
+        Verdict::Refused(r) => Verdict::Refused(r),
+        Verdict::Good => b,
+    }
+}
+
+// Refuses numbers that are not all finite.
+pub fn finite_or(r: Refusal, xs: &[f64]) -> Verdict
+    ensures { λ v. ⌜ v ≡ finiteOr r (now (xs .entry)) ⌝ }
+{
+    if numbers::all_finite(xs) {
+        return Verdict::Good;
+    }
+    Verdict::Refused(r)
+}
+
+// Refuses numbers that are not as many as wanted, or not all finite.
+pub fn check_numbers(wanted: usize, xs: &[f64]) -> Verdict
+    ensures { λ v. ⌜ v ≡ checkedNumbers wanted (now (xs .entry)) ⌝ }
+{
+    let found = xs.len();
+    if found == wanted {
+        return finite_or(Refusal::NonFinite, xs);
+    }
+    Verdict::Refused(Refusal::Shape {
+        expected: wanted as u64,
+        actual: found as u64,
+    })
 }
 
 // N.

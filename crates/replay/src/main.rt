@@ -1,5 +1,9 @@
-// Writes the sheet of each stored card of the file `cards`, then the reading of each card of the file `readings`. In both a card stands
-// after a word with its length in bytes. The file `stdout` beside src/ holds the Rust's answers.
+// Writes the sheet of each stored card of the file `cards`, the reading of each card of the file `readings`, and the outcome of each library call of the
+// file `calls`. In all three a card or the words of a call stand after a word with their length in bytes. The file `stdout` beside src/ holds the Rust's
+// answers.
+ghost use mathlib.Core.Path.{_≡_};
+ghost use Prim.Native.Nat.{_*_, _≤_};
+ghost use lib.ListN.{length};
 
 // Room for a card; the `ensures` gives the length alone, which lending a part needs.
 fn card_buffer() -> [u8; 65537]
@@ -20,6 +24,79 @@ fn answer_reading(card: &[u8]) {
     printing::print_reading(reading);
 }
 
+fn answer_probes(n: u64) {
+    let mut result = [0u64; 4096];
+    let mut work = [0.0f64; 8192];
+    let answer = library::product_probe_expectations(n, &mut result, &mut work);
+    printing::print_sheet(answer, &result);
+}
+
+fn answer_setting(n: u64, index: u64) {
+    let mut result = [0u64; 4096];
+    let mut work = [0.0f64; 8192];
+    let answer = library::local_pauli_setting(n, index, &mut result, &mut work);
+    printing::print_sheet(answer, &result);
+}
+
+fn answer_apply<'a>(n: u64, values: &'a [f64], input: &'a [f64]) {
+    let mut result = [0u64; 4096];
+    let mut work = [0.0f64; 8192];
+    let answer = library::apply_expectations(n, values, input, &mut result, &mut work);
+    printing::print_sheet(answer, &result);
+}
+
+// Room for the numbers of a call.
+fn numbers_room() -> [f64; 512]
+    ensures { λ r. ⌜ 512 ≡ length r ⌝ }
+{
+    [0.0; 512]
+}
+
+// The words of a call from place 3 on: v values, and the rest is the input.
+fn apply_call(call: &[u8], count: usize, n: u64, v: u64)
+    requires { ⌜ count * 8 ≤ length (now call) ⌝ }
+{
+    if 512 < v {
+        return;
+    }
+    let m = v as usize;
+    if count < 3 + m {
+        return;
+    }
+    let inputs = count - (3 + m);
+    if 512 < inputs {
+        return;
+    }
+    let mut values = numbers_room();
+    let mut input = numbers_room();
+    numbers::load(call, 3, m, &mut values);
+    numbers::load(call, 3 + m, inputs, &mut input);
+    answer_apply(n, &values[..m], &input[..inputs]);
+}
+
+// The entry (8 probes, 9 a setting, 10 a transfer matrix applied), n, then the index, or the count of values.
+fn answer_call(call: &[u8]) {
+    let count = call.len() / 8;
+    if count < 2 {
+        return;
+    }
+    let entry = numbers::word_at(call, 0);
+    let n = numbers::word_at(call, 1);
+    if entry == 8 {
+        answer_probes(n);
+        return;
+    }
+    if count < 3 {
+        return;
+    }
+    let third = numbers::word_at(call, 2);
+    if entry == 9 {
+        answer_setting(n, third);
+        return;
+    }
+    apply_call(call, count, n, third);
+}
+
 // The next card of the file at the front of `card`: its length, or 65,538 at the end of the file.
 fn next(fd: i32, card: &mut [u8]) -> usize
     requires { ⌜ length (now card) ≡ 65537 ⌝ }
@@ -38,45 +115,47 @@ fn next(fd: i32, card: &mut [u8]) -> usize
     n
 }
 
-// One card of the file, as a sheet or as a reading, or false at the end of the file.
-fn one(fd: i32, sheets: bool) -> bool {
+// One card of the file, as a sheet (0), a reading (1) or a call (2), or false at the end of the file.
+fn one(fd: i32, what: u64) -> bool {
     let mut card = card_buffer();
     let n = next(fd, &mut card);
     if 65537 < n {
         return false;
     }
-    if sheets {
+    if what == 0 {
         answer_sheet(&card[..n]);
-    } else {
-        answer_reading(&card[..n]);
+        return true;
     }
+    if what == 1 {
+        answer_reading(&card[..n]);
+        return true;
+    }
+    answer_call(&card[..n]);
     true
 }
 
-fn all(fd: i32, sheets: bool) {
+fn all(fd: i32, what: u64) {
     let mut turns: u64 = 100000;
     while turns > 0 {
-        if !one(fd, sheets) {
+        if !one(fd, what) {
             return;
         }
         turns = turns - 1;
     }
 }
 
-fn replay(path: &[u8], sheets: bool) {
+fn replay(path: &[u8], what: u64) {
     let fd = os::open_read(path);
     if fd < 0 {
         os::fail(path);
         return;
     }
-    all(fd, sheets);
+    all(fd, what);
     libc::close(fd);
 }
 
 fn main() {
-    replay(b"cards", true);
-    replay(b"readings", false);
+    replay(b"cards", 0);
+    replay(b"readings", 1);
+    replay(b"calls", 2);
 }
-
-ghost use mathlib.Core.Path.{_≡_};
-ghost use lib.ListN.{length};

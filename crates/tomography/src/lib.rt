@@ -1,63 +1,16 @@
-// The entry points. They ask nothing of their callers, test the lengths of the slices first, and clear the work slice at every exit.
+// The entry point: the sheet of a card. It asks nothing of its caller, tests the lengths of the slices first, and clears the work slice at every exit.
 use card::Reading;
 use card_layout::Header;
 use card_layout::header_of;
-use pauli::Inverted;
+use outcome::Answer;
 use refusal::Refusal;
 ghost use mathlib.Core.Path.{_≡_};
-ghost use Prim.Native.Nat.{ℕ, _+_, _*_, _^_, _≤_, _<_};
+ghost use Prim.Native.Nat.{ℕ, _≤_, _<_};
 ghost use lib.ListN.{length};
-ghost use Rattle.lists.specs.Build.{over};
-ghost use Rattle.numbers.specs.Slice.{numberAt, numbersAt};
 ghost use Rattle.card.specs.Reading.{readOf};
 ghost use Rattle.card.specs.declared.Reading.the-variants.{Accepted};
-ghost use Rattle.pauli.specs.Density.{invertedOf, computedOf};
-ghost use Rattle.tomography.specs.Outcome.{Gives};
-ghost use Rattle.tomography.specs.Sheet.{inversionSheet, kindSheet, built, sheetOf, outcomeOf, Sheet};
-
-pub mod library;
-
-// A sheet's header, or a refusal.
-pub enum Answer {
-    Density { dimension: u64 },
-    Refused(Refusal),
-}
-
-// Room for the 4^n expectations of up to three qubits; the `ensures` gives the length, which lending a part needs.
-fn room() -> [f64; 64]
-    ensures { λ r. ⌜ 64 ≡ length r ⌝ }
-{
-    [0.0; 64]
-}
-
-// Inverts the expectations of a card of kind 1; the density matrix goes to the front of the work slice.
-fn invert(card: &[u8], n: usize, work: &mut [f64]) -> Inverted
-    requires { ⌜ (n ≤ 3) × ((2 + 4 ^ n) * 8 ≤ length (now card)) × (8192 ≤ length (now work)) ⌝ }
-    ensures { λ r. ⌜ (r ≡ invertedOf n (numberAt (now (card .entry)) 1) (numbersAt (now (card .entry)) 2 (4 ^ n)))
-        × (now (work .exit) ≡ over (computedOf n (numberAt (now (card .entry)) 1) (numbersAt (now (card .entry)) 2 (4 ^ n))) (now (work .entry))) ⌝ }
-{
-    let count = card_places::four_to(n);
-    let mut es = room();
-    numbers::load(card, 2, count, &mut es);
-    let tolerance = numbers::number_of(numbers::word_at(card, 1));
-    pauli::linear_inversion(n, tolerance, &es[..count], work)
-}
-
-// Kind 1.
-fn run_inversion(card: &[u8], n: usize, result: &mut [u64], work: &mut [f64]) -> Answer
-    requires { ⌜ (n ≤ 3) × ((2 + 4 ^ n) * 8 ≤ length (now card)) × (4096 ≤ length (now result)) × (8192 ≤ length (now work)) ⌝ }
-    ensures { λ r. ⌜ Gives (inversionSheet (now (card .entry)) n) (now (result .entry)) (now (result .exit)) r ⌝ }
-{
-    let done = invert(card, n, work);
-    match done {
-        Inverted::Refused(r) => Answer::Refused(r),
-        Inverted::Density { dimension } => {
-            let count = 2 * card_places::four_to(n);
-            numbers::emit(work, count, result);
-            Answer::Density { dimension }
-        }
-    }
-}
+ghost use Rattle.outcome.specs.Outcome.{Gives, inRoom};
+ghost use Rattle.tomography.specs.Sheet.{kindBuilt, kindSheet, built, sheetOf, Sheet};
 
 // A card that the reader accepts.
 fn run_kind(card: &[u8], h: Header, result: &mut [u64], work: &mut [f64]) -> Answer
@@ -67,9 +20,27 @@ fn run_kind(card: &[u8], h: Header, result: &mut [u64], work: &mut [f64]) -> Ans
     let kind = h.kind;
     let n = h.qubits;
     if kind == 1 {
-        return run_inversion(card, n, result, work);
+        return sheets::density_sheet(card, n, result, work);
+    }
+    if kind == 3 {
+        return sheets::process_sheet(card, n, result, work);
+    }
+    if kind == 6 {
+        return sheets::gauge_sheet(card, h, result, work);
     }
     Answer::Refused(Refusal::InvalidCard(0))
+}
+
+fn is_kind_built(kind: usize) -> bool
+    ensures { λ r. ⌜ r ≡ kindBuilt kind ⌝ }
+{
+    if kind == 1 {
+        return true;
+    }
+    if kind == 3 {
+        return true;
+    }
+    kind == 6
 }
 
 fn is_built(card: &[u8]) -> bool
@@ -79,7 +50,7 @@ fn is_built(card: &[u8]) -> bool
         return false;
     }
     let h = header_of(numbers::word_at(card, 0));
-    h.kind == 1
+    is_kind_built(h.kind)
 }
 
 fn run(card: &[u8], result: &mut [u64], work: &mut [f64]) -> Answer
@@ -97,12 +68,9 @@ fn run(card: &[u8], result: &mut [u64], work: &mut [f64]) -> Answer
 }
 
 fn run_in_room(card: &[u8], result: &mut [u64], work: &mut [f64]) -> Answer
-    ensures { λ r. ⌜ Gives (outcomeOf (now (card .entry)) (now (result .entry)) (now (work .entry))) (now (result .entry)) (now (result .exit)) r ⌝ }
+    ensures { λ r. ⌜ Gives (inRoom (now (result .entry)) (now (work .entry)) (sheetOf (now (card .entry)))) (now (result .entry)) (now (result .exit)) r ⌝ }
 {
-    if result.len() < 4096 {
-        return Answer::Refused(Refusal::ShortBuffer);
-    }
-    if work.len() < 8192 {
+    if !outcome::has_room(result, work) {
         return Answer::Refused(Refusal::ShortBuffer);
     }
     run(card, result, work)

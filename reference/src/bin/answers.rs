@@ -1,17 +1,20 @@
-//! Writes the stored cards and the Rust's answers: `answers DIR`.
+//! Writes the stored cards and library calls and the Rust's answers: `answers DIR`.
 //!
-//! DIR/data/cards and DIR/data/readings hold each card after its length in bytes (8 bytes, highest first). DIR/stdout holds
-//! the sheets of the cards and after them the readings, a line each.
+//! DIR/data/cards and DIR/data/readings hold each card after its length in bytes (8 bytes, highest first), and so
+//! DIR/data/calls the words of each library call. DIR/stdout holds the sheets of the cards, the readings, a line each, and
+//! the outcomes of the calls.
 
 use reference::card::bytes_of;
-use reference::makers::{self, fixed, readings};
+use reference::makers::{self, calls, fixed, readings};
 use reference::random::Rng;
+use reference::tomography::product_probe_expectations;
 use reference::{sheet, BUILT};
 use std::path::Path;
 use std::{env, fs, io};
 
-const SHEETS: usize = 660;
-const SHEET_BYTES: usize = 220_000;
+/// Of each kind that the port has.
+const SHEETS: usize = 300;
+const SHEET_BYTES: usize = 150_000;
 const READINGS: usize = 700;
 /// A card and its answer that are always small enough.
 const LEAST: usize = 160;
@@ -76,6 +79,33 @@ impl Stored {
     }
 }
 
+/// Cards of the largest shapes, above the size of the others.
+fn large(kind: u8) -> Vec<Vec<u64>> {
+    let mut rng = Rng::new(2023);
+    let mut list = Vec::new();
+    match kind {
+        3 => {
+            let probes = product_probe_expectations(2).expect("n is 2");
+            let mut outputs = probes.clone();
+            for x in outputs.iter_mut().flat_map(|row| row.iter_mut().skip(1)) {
+                *x = 0.9 * *x + 0.01 * rng.signed();
+            }
+            list.push(fixed::process(2, 1e-9, &probes.concat(), &outputs.concat()));
+            list.push(fixed::process(2, 1e-9, &outputs.concat(), &probes.concat()));
+            list.push(fixed::process(2, 1e-9, &vec![1.0; 256], &probes.concat()));
+        }
+        6 => {
+            let model = fixed::model_of_size(16, 4, 2, &mut rng);
+            let mut near_one = fixed::diagonal(&[1.0; 16]);
+            near_one.iter_mut().for_each(|x| *x += 0.05 * rng.signed());
+            list.push(fixed::gauge(&model, &near_one));
+            list.push(fixed::gauge(&fixed::model_of_size(5, 3, 8, &mut rng), &near_one[..25]));
+        }
+        _ => {}
+    }
+    list
+}
+
 fn sheets() -> Stored {
     let mut stored = Stored::new(|card| sheet::print(&sheet::built_outcome(card)));
     let mut rng = Rng::new(2024);
@@ -88,8 +118,11 @@ fn sheets() -> Stored {
     for size in [0, 1, 7, 8] {
         stored.put(&vec![0x11; size]);
     }
-    for (k, &kind) in BUILT.iter().enumerate() {
-        let (count, limit) = (SHEETS * (k + 1) / BUILT.len(), SHEET_BYTES * (k + 1) / BUILT.len());
+    for &kind in BUILT {
+        for words in large(kind) {
+            stored.put(&bytes_of(&words));
+        }
+        let (count, limit) = (stored.count + SHEETS, stored.bytes() + SHEET_BYTES);
         let fixed = vec![fixed::edges(kind), fixed::sweep(&fixed::base(kind))];
         stored.fill(count, limit, fixed, |rng| makers::card(kind, rng), &mut rng);
     }
@@ -115,12 +148,21 @@ fn readings() -> Stored {
         let (count, limit) = (READINGS * kind as usize / 7, READING_BYTES * kind as usize / 7);
         let (count, limit) = (count.max(stored.count + 40), limit.max(stored.bytes() + 6_000));
         let fixed = vec![fixed::sweep(&fixed::base(kind))];
-        stored.fill(count, limit, fixed, |rng| readings::reading(rng), &mut rng);
+        stored.fill(count, limit, fixed, readings::reading, &mut rng);
     }
     // One card above the largest size; the others are as large and are compared from memory.
     let longer = large.iter().find(|card| card.len() == 65_537).expect("the traps have this size");
     stored.put(longer);
     stored
+}
+
+/// The calls, their outcomes and how many.
+fn library_calls() -> (Vec<u8>, String, usize) {
+    let list = calls::stored();
+    let stored = |words: Vec<u64>| bytes_of(&[&[8 * words.len() as u64], &words[..]].concat());
+    let bytes = list.iter().flat_map(|call| stored(call.words())).collect();
+    let text = list.iter().map(|call| sheet::print(&call.outcome())).collect();
+    (bytes, text, list.len())
 }
 
 fn main() -> io::Result<()> {
@@ -132,7 +174,9 @@ fn main() -> io::Result<()> {
     fs::create_dir_all(folder.join("data"))?;
     fs::write(folder.join("data/cards"), &sheets.cards)?;
     fs::write(folder.join("data/readings"), &readings.cards)?;
-    fs::write(folder.join("stdout"), sheets.text + &readings.text)?;
-    println!("{} cards, {} readings", sheets.count, readings.count);
+    let (calls, outcomes, count) = library_calls();
+    fs::write(folder.join("data/calls"), calls)?;
+    fs::write(folder.join("stdout"), sheets.text + &readings.text + &outcomes)?;
+    println!("{} cards, {} readings, {count} calls", sheets.count, readings.count);
     Ok(())
 }

@@ -1,25 +1,34 @@
 //! Compares the port with the Rust: `compare COUNT SEED [GROUP..]`.
 //!
-//! A group is a kind (1 to 7) of the sheet entry, `read`, `sqrt` or `ln`; without one all are run. Each has its fixed
-//! cards and COUNT random ones; `sqrt` and `ln` have fixed numbers and 100 times COUNT random ones. The exit status is 1 if
-//! anything differs.
+//! A group is a kind (1 to 7) of the sheet entry, `read`, a library entry (`probes`, `setting`, `apply`), `sqrt` or `ln`;
+//! without one all are run. Each has its fixed cards or calls and COUNT random ones; `sqrt` and `ln` have fixed numbers and
+//! 100 times COUNT random ones. Then the cases are counted that kinds 3 and 6 and the library entries met. The exit status
+//! is 1 if anything differs.
 
 use reference::card::{self, bytes_of, Refusal};
+use reference::cases::{self, Cases};
+use reference::hooks::with_pivots;
+use reference::library::Call;
 use reference::ln::ln;
-use reference::makers::{self, arguments, fixed};
+use reference::makers::{self, arguments, calls, fixed};
 use reference::port::{self, ANSWER_WORDS, RESULT_WORDS, WORK_WORDS};
 use reference::random::Rng;
 use reference::sheet::{self, Outcome};
 use reference::BUILT;
 use std::collections::BTreeMap;
+use std::hint::black_box;
 use std::process::ExitCode;
 
 /// Words before and after each lent slice that must stay as they are.
 const GUARD: usize = 16;
 const SHOWN: usize = 5;
 
-const USAGE: &str = "compare COUNT SEED [1..7 | read | sqrt | ln]..
-  COUNT random cards for each kind and for read, 100 times COUNT random numbers for sqrt and for ln";
+const USAGE: &str = "compare COUNT SEED [1..7 | read | probes | setting | apply | sqrt | ln]..
+  COUNT random cards for each kind and for read, COUNT random calls for each library entry,
+  100 times COUNT random numbers for sqrt and for ln";
+const GROUPS: [&str; 13] =
+    ["1", "2", "3", "4", "5", "6", "7", "read", "probes", "setting", "apply", "sqrt", "ln"];
+const ENTRIES: [&str; 3] = ["probes", "setting", "apply"];
 
 /// Random numbers of `sqrt` and `ln` for each random card of another group.
 const NUMBERS_PER_COUNT: u64 = 100;
@@ -117,17 +126,31 @@ impl Lent {
     }
 }
 
-/// Lengths of result, work and answer: mostly the least or a little more, sometimes too short.
-fn lengths(rng: &mut Rng) -> (usize, usize, usize) {
-    let length = |rng: &mut Rng, least: usize| match rng.below(200) {
-        0 => 0,
-        1 => 1,
-        2 => least - 1,
-        3 => rng.index(least),
-        4..=20 => least + rng.index(70),
-        _ => least,
-    };
-    (length(rng, RESULT_WORDS), length(rng, WORK_WORDS), length(rng, ANSWER_WORDS))
+/// Lengths of the lent slices.
+#[derive(Clone, Copy)]
+struct Lengths {
+    result: usize,
+    work: usize,
+    answer: usize,
+}
+
+impl Lengths {
+    /// Mostly the least or a little more, sometimes too short.
+    fn any(rng: &mut Rng) -> Self {
+        let mut length = |least: usize| match rng.below(200) {
+            0 => 0,
+            1 => 1,
+            2 => least - 1,
+            3 => rng.index(least),
+            4..=20 => least + rng.index(70),
+            _ => least,
+        };
+        Lengths { result: length(RESULT_WORDS), work: length(WORK_WORDS), answer: length(ANSWER_WORDS) }
+    }
+
+    fn short(self) -> bool {
+        self.result < RESULT_WORDS || self.work < WORK_WORDS || self.answer < ANSWER_WORDS
+    }
 }
 
 struct Compare {
@@ -138,6 +161,7 @@ struct Compare {
     card: Vec<u8>,
     numbers: Vec<u64>,
     agreed: BTreeMap<String, u64>,
+    cases: BTreeMap<String, u64>,
     differing: usize,
 }
 
@@ -151,6 +175,7 @@ impl Compare {
             card: Vec::new(),
             numbers: Vec::new(),
             agreed: BTreeMap::new(),
+            cases: BTreeMap::new(),
             differing: 0,
         }
     }
@@ -164,14 +189,14 @@ impl Compare {
         shift
     }
 
-    fn note(&mut self, label: String, bytes: &[u8], wanted: String, found: String, difference: Result<(), String>) {
+    fn note(&mut self, label: String, given: &[u8], wanted: String, found: String, difference: Result<(), String>) {
         match difference {
             Ok(()) => *self.agreed.entry(label).or_default() += 1,
             Err(difference) => {
                 self.differing += 1;
                 if self.differing <= SHOWN {
                     println!("{label} differs: {difference}");
-                    println!("  card: {}", hexadecimal(bytes));
+                    println!("  given: {}", hexadecimal(given));
                     println!("  the Rust: {wanted}");
                     println!("  the port: {found}");
                 }
@@ -179,37 +204,42 @@ impl Compare {
         }
     }
 
-    fn sheet(&mut self, bytes: &[u8]) {
-        let (result, work, answer) = lengths(&mut self.rng);
-        self.result.fill(result, &mut self.rng);
-        self.work.fill(work, &mut self.rng);
-        self.answer.fill(answer, &mut self.rng);
-        let shift = self.lend_card(bytes);
-        let returned =
-            port::sheet(&self.card[shift..], self.result.slice(), self.work.slice(), self.answer.slice());
+    /// Result, work and answer with garbage in them.
+    fn lend(&mut self) -> Lengths {
+        let lengths = Lengths::any(&mut self.rng);
+        self.result.fill(lengths.result, &mut self.rng);
+        self.work.fill(lengths.work, &mut self.rng);
+        self.answer.fill(lengths.answer, &mut self.rng);
+        lengths
+    }
 
-        let short = result < RESULT_WORDS || work < WORK_WORDS || answer < ANSWER_WORDS;
-        let outcome = if short { Outcome::Refused(Refusal::new(16, 0, 0)) } else { sheet::built_outcome(bytes) };
-        let label = match &outcome {
-            Outcome::Accepted { kind, .. } => format!("sheet, kind {kind}, accepted"),
-            Outcome::Refused(refusal) => format!("sheet, kind {}, refused {:2}", kind_label(bytes), refusal.n),
-        };
-        let (code, written): (u64, &[u64]) = match &outcome {
-            Outcome::Accepted { words, .. } => (0, words),
-            Outcome::Refused(refusal) => (refusal.n, &[]),
+    /// What a call returned and wrote, beside the Rust's outcome. `kept` tells whether what it was given is as before.
+    fn judge(
+        &mut self,
+        label: String,
+        given: &[u8],
+        lent: Lengths,
+        returned: u64,
+        outcome: &Outcome,
+        kept: Result<(), String>,
+    ) {
+        let (label, code, written): (String, u64, &[u64]) = match outcome {
+            Outcome::Accepted { words, .. } => (format!("{label}, accepted"), 0, words),
+            Outcome::Refused(refusal) => (format!("{label}, refused {:2}", refusal.n), refusal.n, &[]),
         };
         let head = outcome.answer();
-        let answered: &[u64] = if answer < ANSWER_WORDS { &[] } else { &head };
+        let answered: &[u64] = if lent.answer < ANSWER_WORDS { &[] } else { &head };
         let difference = check_code(returned, code)
             .and_then(|()| self.answer.check("answer", answered, None))
             .and_then(|()| self.result.check("result", written, None))
             .and_then(|()| self.work.check("work", &[], Some(0)))
-            .and_then(|()| check_card(&self.card[shift..], bytes));
+            .and(kept);
         // Texts only for what is shown: they would take most of the time.
         let (wanted, found) = if difference.is_ok() {
             (String::new(), String::new())
         } else {
-            let shown = written.len().max(8).min(result);
+            let shown = written.len().max(8).min(lent.result);
+            let Lengths { result, work, answer } = lent;
             (
                 format!("answer {}, result {}", words(&head), words(written)),
                 format!(
@@ -219,11 +249,34 @@ impl Compare {
                 ),
             )
         };
-        self.note(label, bytes, wanted, found, difference);
+        self.note(label, given, wanted, found, difference);
+    }
+
+    fn count_cases(&mut self, label: &str, cases: Cases) {
+        for case in cases {
+            *self.cases.entry(format!("{label}: {case}")).or_default() += 1;
+        }
+    }
+
+    fn sheet(&mut self, bytes: &[u8]) {
+        let lent = self.lend();
+        let shift = self.lend_card(bytes);
+        let returned =
+            port::sheet(&self.card[shift..], self.result.slice(), self.work.slice(), self.answer.slice());
+        let kind = kind_label(bytes);
+        let outcome = if lent.short() {
+            Outcome::Refused(Refusal::new(16, 0, 0))
+        } else {
+            let (outcome, pivots) = with_pivots(|| sheet::built_outcome(bytes));
+            self.count_cases(&format!("kind {kind}"), cases::of_card(bytes, &outcome, &pivots));
+            outcome
+        };
+        let kept = check_kept("card", &self.card[shift..], bytes);
+        self.judge(format!("sheet, kind {kind}"), bytes, lent, returned, &outcome, kept);
     }
 
     fn read(&mut self, bytes: &[u8]) {
-        let (_, _, answer) = lengths(&mut self.rng);
+        let answer = Lengths::any(&mut self.rng).answer;
         self.answer.fill(answer, &mut self.rng);
         let shift = self.lend_card(bytes);
         let returned = port::read(&self.card[shift..], self.answer.slice());
@@ -236,9 +289,37 @@ impl Compare {
         let answered: &[u64] = if answer < ANSWER_WORDS { &[] } else { &head };
         let difference = check_code(returned, code)
             .and_then(|()| self.answer.check("answer", answered, None))
-            .and_then(|()| check_card(&self.card[shift..], bytes));
+            .and_then(|()| check_kept("card", &self.card[shift..], bytes));
         let found = format!("{} (lent {answer} answer words)", words(self.answer.slice()));
         self.note(label, bytes, words(&head), found, difference);
+    }
+
+    /// A library call. Beyond its values and its input stand NaNs, so that a longer reading shows.
+    fn call(&mut self, call: &Call) {
+        let lent = self.lend();
+        let (result, work, answer) = (self.result.slice(), self.work.slice(), self.answer.slice());
+        let (returned, kept) = match call {
+            Call::Apply { n, values, input } => {
+                let beyond = [f64::NAN; GUARD];
+                let whole = [&beyond, &values[..], &beyond, &input[..], &beyond].concat();
+                let (values, input) =
+                    (&whole[GUARD..][..values.len()], &whole[2 * GUARD + values.len()..][..input.len()]);
+                let bits: Vec<u64> = whole.iter().map(|x| x.to_bits()).collect();
+                let returned = port::apply(*n, values, input, result, work, answer);
+                let after: Vec<u64> = black_box(&whole).iter().map(|x| x.to_bits()).collect();
+                (returned, check_kept("values and input", &after, &bits))
+            }
+            other => (port::call(other, result, work, answer), Ok(())),
+        };
+        let name = call.entry().0;
+        let outcome = if lent.short() {
+            Outcome::Refused(Refusal::new(16, 0, 0))
+        } else {
+            let outcome = call.outcome();
+            self.count_cases(name, cases::of_call(call, &outcome));
+            outcome
+        };
+        self.judge(name.to_string(), &bytes_of(&call.words()), lent, returned, &outcome, kept);
     }
 
     /// All of `source`, in batches of any length.
@@ -304,7 +385,7 @@ impl Compare {
         }
         let rest = check_code(returned as u64, done as u64)
             .and_then(|()| self.result.check("out", &found, None))
-            .and_then(|()| if self.numbers[shift..] == *x { Ok(()) } else { Err("x was written to".to_string()) });
+            .and_then(|()| check_kept("x", &self.numbers[shift..], x));
         if let Err(rest) = rest {
             self.differing += 1;
             differences.insert(0, rest);
@@ -339,11 +420,11 @@ fn check_code(found: u64, wanted: u64) -> Result<(), String> {
     }
 }
 
-fn check_card(found: &[u8], wanted: &[u8]) -> Result<(), String> {
+fn check_kept<T: PartialEq>(name: &str, found: &[T], wanted: &[T]) -> Result<(), String> {
     if found == wanted {
         Ok(())
     } else {
-        Err("the card was written to".to_string())
+        Err(format!("{name}: written to"))
     }
 }
 
@@ -381,7 +462,7 @@ fn main() -> ExitCode {
         return ExitCode::from(2);
     };
     let groups = &arguments[2..];
-    if !groups.iter().all(|group| ["1", "2", "3", "4", "5", "6", "7", "read", "sqrt", "ln"].contains(&group.as_str())) {
+    if !groups.iter().all(|group| GROUPS.contains(&group.as_str())) {
         eprintln!("{USAGE}");
         return ExitCode::from(2);
     }
@@ -427,6 +508,20 @@ fn main() -> ExitCode {
         }
     }
 
+    for (place, &entry) in ENTRIES.iter().enumerate().filter(|(_, entry)| wanted(entry)) {
+        if !port::ENTRIES.contains(&entry) {
+            println!("{entry}: not in the port");
+            continue;
+        }
+        let mut rng = Rng::new(seed.wrapping_mul(8).wrapping_add(place as u64) ^ 0xca11);
+        for call in calls::fixed(entry) {
+            compare.call(&call);
+        }
+        for _ in 0..count {
+            compare.call(&calls::call(entry, &mut rng));
+        }
+    }
+
     for leaf in LEAVES.iter().filter(|leaf| wanted(leaf.name)) {
         let mut rng = Rng::new(seed);
         compare.numbers(leaf, (leaf.fixed)(&mut rng).into_iter());
@@ -435,6 +530,9 @@ fn main() -> ExitCode {
 
     for (label, agreed) in &compare.agreed {
         println!("{label}: {agreed} agreed");
+    }
+    for (case, met) in &compare.cases {
+        println!("{case}: {met} times");
     }
     let agreed: u64 = compare.agreed.values().sum();
     println!("{agreed} agreed, {} differ", compare.differing);

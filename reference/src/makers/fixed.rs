@@ -3,7 +3,9 @@
 use super::numbers::{self, power};
 use super::words_of;
 use crate::card::{self, bytes_of, Head, Refusal, Role};
+use crate::hooks::with_pivots;
 use crate::random::Rng;
+use crate::tomography::{process_linear_inversion, product_probe_expectations};
 
 fn head(kind: u8, n: usize, d: usize) -> u64 {
     Head { kind, n, d, ..Head::default() }.word()
@@ -376,6 +378,177 @@ fn density_edges() -> Vec<Vec<u64>> {
     list
 }
 
+/// The one-qubit probes.
+const PROBES: [f64; 16] = [1., 0., 0., 1., 1., 0., 0., -1., 1., 1., 0., 0., 1., 0., 1., 0.];
+
+/// This card with each of these words in each of these places.
+fn with_each(list: &mut Vec<Vec<u64>>, card: &[u64], places: impl Iterator<Item = usize>, words: &[u64]) {
+    for place in places {
+        for &word in words {
+            let mut changed = card.to_vec();
+            changed[place] = word;
+            list.push(changed);
+        }
+    }
+}
+
+/// NaNs, infinities, and finite numbers that change what is computed.
+const FAULTS: [u64; 7] = [
+    0x7ff8000000000000,
+    0xfff0000000000001,
+    0x7ff0000000000000,
+    0xfff0000000000000,
+    0x7fefffffffffffff,
+    0x8000000000000000,
+    0x0000000000000001,
+];
+
+fn process_edges() -> Vec<Vec<u64>> {
+    let mut list = vec![process(1, 1e-9, &PROBES, &PROBES)];
+    let mut inputs = PROBES;
+    for (tolerance, identity, other) in
+        [(0.0, 1.0, 1.0), (0.5, 1.5, 1.0), (0.5, 1.75, f64::NAN), (0.5, 1.0, f64::NAN), (0.9, 1.0, 1.0)]
+    {
+        inputs[0] = identity;
+        inputs[5] = other;
+        list.push(process(1, tolerance, &inputs, &PROBES));
+    }
+    list.push(process(1, 1e-9, &[1.0; 16], &PROBES));
+    list.push(process(1, 1e-9, &PROBES, &PROBES.map(|x| if x == 0.0 { f64::MAX } else { 1.0 })));
+    for n in 1..=2 {
+        let probes = product_probe_expectations(n).expect("n is 1 or 2");
+        let card = process(n, 1e-9, &probes.concat(), &probes.concat());
+        with_each(&mut list, &card, 1..card.len(), &FAULTS);
+        // The tolerance at each pivot, and one float beside it: the probes' scale is 1.
+        let (_, pivots) = with_pivots(|| process_linear_inversion(n, &probes, &probes, power(-1074)));
+        for size in pivots.iter().map(|pivot| pivot.size) {
+            with_each(&mut list, &card, 1..2, &[size, size.next_up(), size.next_down()].map(f64::to_bits));
+        }
+        // Identities at the tolerance, of every vector.
+        let first = (2..card.len()).step_by(1 << (2 * n));
+        let around = [1.0 + 1e-9, (1.0f64 + 1e-9).next_up(), 1.0 - 1e-9, (1.0f64 - 1e-9).next_down(), 3.0];
+        with_each(&mut list, &card, first, &around.map(f64::to_bits));
+    }
+    // Pivots that overflow, and NaNs as pivots; outputs that stay finite.
+    let max = f64::MAX;
+    let mut rng = Rng::new(3);
+    for k in 0..200 {
+        let mut huge = PROBES;
+        for (place, x) in huge.iter_mut().enumerate().filter(|(place, _)| place % 4 != 0) {
+            *x = if k < 20 && place % 4 > 1 { *x } else { rng.pick(&[max, -max, max / 2.0, 0.5, 0.0]) };
+        }
+        list.push(process(1, power(-1074 + k % 30), &huge, &PROBES));
+    }
+    list
+}
+
+/// A model of any size with numbers that are all different.
+pub fn model_of_size(d: usize, effects: usize, gates: usize, rng: &mut Rng) -> Parts {
+    let mut numbers = |count: usize| (0..count).map(|_| 0.5 * rng.signed()).collect::<Vec<f64>>();
+    Parts {
+        state: numbers(d),
+        effects: (0..effects).map(|_| numbers(d)).collect(),
+        gates: (0..gates).map(|gate| (gate as u64 + 1, numbers(d * d))).collect(),
+    }
+}
+
+fn gauge_edges() -> Vec<Vec<u64>> {
+    let mut list = Vec::new();
+    let mut rng = Rng::new(6);
+    let mut model = small_model();
+    for x in [1.0, -1.0, 0.0, power(-44), power(-43), power(-45), 1e308, f64::NAN] {
+        list.push(gauge(&model, &diagonal(&[1.0, x])));
+        list.push(gauge(&model, &[x, 1.0, 1.0, x]));
+    }
+    let card = base(6);
+    let names = [9, 14];
+    with_each(&mut list, &card, (1..card.len()).filter(|place| !names.contains(place)), &FAULTS);
+    with_each(&mut list, &card, names.into_iter(), &[0, 7, 0x6964, u64::MAX]);
+    // Each fault beside one of a later part: the model's order, and the model before the transform.
+    let parts = [1..3, 3..9, 9..10, 10..14, 14..15, 15..19, 19..23];
+    for (k, first) in parts.iter().enumerate() {
+        for second in &parts[k + 1..] {
+            for (a, b) in [(first.start, second.start), (first.end - 1, second.end - 1)] {
+                let mut changed = card.clone();
+                for place in [a, b] {
+                    changed[place] = if names.contains(&place) { 0 } else { FAULTS[0] };
+                }
+                list.push(changed);
+            }
+        }
+    }
+    for d in 1..=16 {
+        let model = model_of_size(d, 1 + d % 4, d % 9, &mut rng);
+        let mut one = diagonal(&vec![1.0; d]);
+        list.push(gauge(&model, &one));
+        list.push(gauge(&model, &vec![1.0; d * d]));
+        list.push(gauge(&model, &vec![0.0; d * d]));
+        list.push(gauge(&model, &vec![-0.0; d * d]));
+        list.push(gauge(&model, &(0..d * d).map(|_| rng.signed()).collect::<Vec<_>>()));
+        // Signs of a Hadamard matrix: ties in every column, where d is a power of two.
+        let sign = |i: usize, j: usize| if (i & j).count_ones().is_multiple_of(2) { 1.0 } else { -1.0 };
+        list.push(gauge(&model, &(0..d * d).map(|z| sign(z / d, z % d)).collect::<Vec<_>>()));
+        // The last number of the diagonal at the threshold, and beside it.
+        let threshold = 64.0 * f64::EPSILON * d as f64;
+        for x in [threshold, threshold.next_up(), threshold.next_down(), -threshold, -threshold.next_up()] {
+            one[d * d - 1] = x;
+            list.push(gauge(&model, &one));
+        }
+    }
+    for (effects, gates) in [(0, 0), (0, 8), (1, 0), (1, 8), (16, 0), (16, 8)] {
+        for d in [0, 1, 2, 16] {
+            let model = model_of_size(d, effects, gates, &mut rng);
+            let transform: Vec<f64> = (0..d * d).map(|z| if z % (d + 1) == 0 { 2.0 } else { 0.1 * rng.signed() }).collect();
+            list.push(gauge(&model, &transform));
+        }
+    }
+    // Names: every pair alike, each one zero.
+    let mut many = model_of_size(2, 1, 8, &mut rng);
+    for later in 0..8 {
+        let name = many.gates[later].0;
+        for earlier in 0..=later {
+            many.gates[later].0 = if earlier == later { 0 } else { many.gates[earlier].0 };
+            list.push(gauge(&many, &diagonal(&[1.0, 2.0])));
+        }
+        many.gates[later].0 = name;
+    }
+    // Infinities on the way, with results that are finite and that are not.
+    let max = f64::MAX;
+    let tiny = Parts { state: vec![power(-10), power(-20)], effects: vec![vec![1.0, -1.0]], gates: vec![(1, vec![0.0; 4])] };
+    for transform in [
+        [max, -max, max, max],
+        [max, max, -max, max],
+        [-max, max, max, max],
+        [max, max, max, -max / 2.0],
+        [max / 2.0, max, max, -max],
+        [max, 0.0, 0.0, max],
+        [power(-1074), 0.0, 0.0, power(-1074)],
+        [power(-1022), 0.0, 0.0, power(-1022)],
+        [power(-1074), power(-1073), power(-1073), power(-1074)],
+    ] {
+        list.push(gauge(&tiny, &transform));
+        list.push(gauge(&model, &transform));
+    }
+    for k in 0..100 {
+        let model = model_of_size(3 + k % 2, 2, 1, &mut rng);
+        let transform: Vec<f64> =
+            (0..model.state.len().pow(2)).map(|_| rng.pick(&[max, -max, max / 2.0, -max / 4.0])).collect();
+        list.push(gauge(&model, &transform));
+    }
+    model.gates[1].0 = 7;
+    list.push(gauge(&model, &diagonal(&[1.0, 1.0])));
+    model.gates[0].0 = 0;
+    list.push(gauge(&model, &diagonal(&[1.0, 1.0])));
+    model.state[1] = f64::NAN;
+    list.push(gauge(&model, &diagonal(&[1.0, 1.0])));
+    model.effects.clear();
+    list.push(gauge(&model, &diagonal(&[1.0, 1.0])));
+    model.state[1] = 0.0;
+    list.push(gauge(&model, &diagonal(&[1.0, 1.0])));
+    list.push(vec![head(6, 0, 0)]);
+    list
+}
+
 /// Kinds 2 to 7: a few cards of each that stand at an edge.
 fn other_edges(kind: u8) -> Vec<Vec<u64>> {
     let mut list = Vec::new();
@@ -393,20 +566,7 @@ fn other_edges(kind: u8) -> Vec<Vec<u64>> {
                 list.push(projection(d, 1e-9, 64 * (d * d) as u64, &vec![1.0; d * d]));
             }
         }
-        3 => {
-            let probes = [1., 0., 0., 1., 1., 0., 0., -1., 1., 1., 0., 0., 1., 0., 1., 0.];
-            list.push(process(1, 1e-9, &probes, &probes));
-            let mut inputs = probes;
-            for (tolerance, identity, other) in
-                [(0.0, 1.0, 1.0), (0.5, 1.5, 1.0), (0.5, 1.75, f64::NAN), (0.5, 1.0, f64::NAN), (0.9, 1.0, 1.0)]
-            {
-                inputs[0] = identity;
-                inputs[5] = other;
-                list.push(process(1, tolerance, &inputs, &probes));
-            }
-            list.push(process(1, 1e-9, &[1.0; 16], &probes));
-            list.push(process(1, 1e-9, &probes, &probes.map(|x| if x == 0.0 { f64::MAX } else { 1.0 })));
-        }
+        3 => list = process_edges(),
         4 => {
             for x in [0.25, 0.25 + power(-54), f64::MAX, f64::INFINITY, f64::NAN, -0.25] {
                 let mut values = diagonal(&[1.0, 1.0, 1.0, 1.0]);
@@ -452,24 +612,7 @@ fn other_edges(kind: u8) -> Vec<Vec<u64>> {
                 list.push(fit(default_controls(), &model, &[], &coordinates));
             }
         }
-        6 => {
-            let mut model = small_model();
-            for x in [1.0, -1.0, 0.0, power(-44), power(-43), power(-45), 1e308, f64::NAN] {
-                list.push(gauge(&model, &diagonal(&[1.0, x])));
-                list.push(gauge(&model, &[x, 1.0, 1.0, x]));
-            }
-            model.gates[1].0 = 7;
-            list.push(gauge(&model, &diagonal(&[1.0, 1.0])));
-            model.gates[0].0 = 0;
-            list.push(gauge(&model, &diagonal(&[1.0, 1.0])));
-            model.state[1] = f64::NAN;
-            list.push(gauge(&model, &diagonal(&[1.0, 1.0])));
-            model.effects.clear();
-            list.push(gauge(&model, &diagonal(&[1.0, 1.0])));
-            model.state[1] = 0.0;
-            list.push(gauge(&model, &diagonal(&[1.0, 1.0])));
-            list.push(vec![head(6, 0, 0)]);
-        }
+        6 => list = gauge_edges(),
         _ => {
             let model = small_model();
             for counts in [[0, 0, 0], [1, 0, 0], [u64::MAX, 0, 0], [u64::MAX, 1, 0], [1 << 63, 1 << 63, 0], [1, 2, 3]] {
@@ -505,10 +648,7 @@ pub fn base(kind: u8) -> Vec<u64> {
     match kind {
         1 => density(1, 0.5, &[1.25, 0.5, -0.25, 0.125]),
         2 => projection(2, 1e-9, 256, &[0.5, 0.25, -0.125, 0.75]),
-        3 => {
-            let probes = [1., 0., 0., 1., 1., 0., 0., -1., 1., 1., 0., 0., 1., 0., 1., 0.];
-            process(1, 1e-9, &probes, &probes)
-        }
+        3 => process(1, 1e-9, &PROBES, &PROBES),
         4 => physical(1, 0.25, 1024, &diagonal(&[1.0, 0.5, -0.5, 0.25])),
         5 => {
             let mut controls = default_controls();

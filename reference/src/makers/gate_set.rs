@@ -38,7 +38,7 @@ fn model(head: &Head, rng: &mut Rng) -> Vec<u64> {
     let size = 1.0 / (2.0 * d as f64);
     let exact = rng.chance(40);
     let small = |rng: &mut Rng| if exact { (rng.below(9) as f64 - 4.0) / 64.0 } else { size * rng.signed() };
-    let mut state = vec![1.0];
+    let mut state = vec![1.0; d.min(1)];
     state.extend((1..d).map(|_| 4.0 * small(rng)));
     let mut povm = vec![vec![0.0; d]; effects];
     for k in 0..d {
@@ -87,15 +87,19 @@ fn model(head: &Head, rng: &mut Rng) -> Vec<u64> {
 
 /// Faults of the model: names, lost normalization.
 fn spoil_model(words: &mut [u64], at: usize, head: &Head, rng: &mut Rng) {
-    let first_gate = at + head.d + head.effects * head.d;
-    let gate = 1 + head.d * head.d;
+    let numbers = head.d + head.effects * head.d;
+    let name = |gate: usize| at + numbers + (1 + head.d * head.d) * gate;
     match rng.below(3) {
-        0 if head.gates > 0 => words[first_gate + gate * rng.index(head.gates)] = 0,
-        1 if head.gates > 1 => words[first_gate + gate * rng.index(head.gates)] = words[first_gate],
-        _ => {
-            let place = at + rng.index(head.d + head.effects * head.d);
+        0 if head.gates > 0 => words[name(rng.index(head.gates))] = 0,
+        1 if head.gates > 1 => {
+            let later = 1 + rng.index(head.gates - 1);
+            words[name(later)] = words[name(rng.index(later))];
+        }
+        _ if numbers > 0 => {
+            let place = at + rng.index(numbers);
             words[place] = (f64::from_bits(words[place]) + 0.125).to_bits();
         }
+        _ => {}
     }
 }
 
@@ -156,42 +160,186 @@ pub fn diagnostics(rng: &mut Rng) -> Vec<u64> {
     words
 }
 
-pub fn gauge(rng: &mut Rng) -> Vec<u64> {
-    let head = shape(6, rng);
-    let d = head.d;
-    let mut words = vec![head.word()];
-    words.extend(model(&head, rng));
-    if rng.chance(6) {
-        spoil_model(&mut words, 1, &head, rng);
+/// Any d, any number of effects and gates; a few have no d or no effects.
+fn gauge_shape(rng: &mut Rng) -> Head {
+    let mut head = shape(6, rng);
+    if rng.chance(25) {
+        head.d = rng.between(1, 16) as usize;
+        head.gates = rng.index(9);
     }
-    let style = rng.below(12);
-    let mut transform = vec![0.0; d * d];
+    match rng.below(60) {
+        0 => head.d = 0,
+        1 => head.effects = 0,
+        _ => {}
+    }
+    head
+}
+
+/// A model whose numbers need not be probabilities' ones: zeros of both signs, any sizes, or so small that products with
+/// huge numbers stay finite.
+fn any_model(head: &Head, rng: &mut Rng) -> Vec<u64> {
+    let mut words = model(head, rng);
+    let style = rng.below(6);
+    let first_gate = head.d + head.effects * head.d;
+    for (place, word) in words.iter_mut().enumerate() {
+        let is_name = place >= first_gate && (place - first_gate).is_multiple_of(1 + head.d * head.d);
+        if is_name {
+            continue;
+        }
+        let x = f64::from_bits(*word);
+        *word = match style {
+            0 => numbers::grid(rng),
+            1 => rng.pick(&[0.0, -0.0, 1.0, -1.0]),
+            2 => numbers::scaled(rng, -60, 60),
+            3 => numbers::finite(rng),
+            _ => x * power(-10),
+        }
+        .to_bits();
+    }
+    words
+}
+
+/// The Rust's threshold for a transform of this scale.
+fn threshold(d: usize, scale: f64) -> f64 {
+    64.0 * f64::EPSILON * d as f64 * scale
+}
+
+/// Powers of two on the diagonal of a triangular matrix, and one number there that stands at the threshold, or one float
+/// or a little beside it. The rows come in any order.
+fn triangular_at_threshold(d: usize, rng: &mut Rng) -> Vec<f64> {
+    let scale = power(rng.below(5) as i64 - 2) * if rng.chance(30) { power(rng.below(1900) as i64 - 950) } else { 1.0 };
+    let at = threshold(d, scale);
+    let small = match rng.below(6) {
+        0 | 1 => at,
+        2 => at.next_up(),
+        3 => at.next_down(),
+        4 => at * 1.25,
+        _ => at * 0.75,
+    };
+    let (low, full) = (rng.index(d), rng.chance(50));
+    let mut rows: Vec<Vec<f64>> = (0..d)
+        .map(|i| {
+            let entry = |j: usize, rng: &mut Rng| match i.cmp(&j) {
+                core::cmp::Ordering::Equal if i == low && d > 1 => small,
+                core::cmp::Ordering::Equal => scale,
+                core::cmp::Ordering::Less if full => scale * 0.5 * rng.signed(),
+                _ => 0.0,
+            };
+            (0..d).map(|j| entry(j, rng) * rng.pick(&[1.0, -1.0])).collect()
+        })
+        .collect();
+    for k in (1..d).rev() {
+        rows.swap(k, rng.index(k + 1));
+    }
+    rows.concat()
+}
+
+/// A product of triangular matrices with exact entries, whose last pivot comes out at the threshold or beside it.
+fn product_at_threshold(d: usize, rng: &mut Rng) -> Vec<f64> {
+    let steps: &[f64] = if rng.chance(50) { &[0.0, 0.5, -0.5, 1.0, -1.0] } else { &[0.0, 0.5, -0.5] };
+    let (mut lower, mut upper) = (vec![0.0; d * d], vec![0.0; d * d]);
+    for i in 0..d {
+        lower[i * d + i] = 1.0;
+        upper[i * d + i] = if i + 1 < d { rng.pick(&[1.0, -1.0]) } else { 0.0 };
+        for j in 0..i {
+            lower[i * d + j] = rng.pick(steps);
+            upper[j * d + i] = rng.pick(&[0.0, 0.5, -0.5, 1.0, -1.0]);
+        }
+    }
+    let mut product: Vec<f64> = (0..d * d)
+        .map(|z| (0..d).fold(0.0, |sum, k| sum + lower[z / d * d + k] * upper[k * d + z % d]))
+        .collect();
+    let scale = product.iter().fold(0.0f64, |scale, x| scale.max(x.abs()));
+    product[d * d - 1] += threshold(d, scale) + rng.pick(&[0.0, 0.0, power(-49), -power(-49)]);
+    product
+}
+
+/// Column 2 comes to hold a NaN and numbers that are too small for a pivot: two rows overflow in column 1, one becomes the
+/// pivot there, and the other takes away an infinity times zero.
+fn nan_beside_small(d: usize, rng: &mut Rng) -> Vec<f64> {
+    let max = f64::MAX;
+    let mut rows: Vec<Vec<f64>> = (0..d)
+        .map(|i| {
+            let mut row: Vec<f64> = (0..d).map(|_| if i == 2 { 0.0 } else { max * rng.signed() }).collect();
+            match i {
+                0 | 1 => (row[0], row[1]) = (max, max),
+                2 => (row[0], row[1]) = (max, -max),
+                _ => (row[0], row[2]) = (0.0, rng.pick(&[0.0, -0.0, 1.0, power(978)])),
+            }
+            row
+        })
+        .collect();
+    for row in rows.iter_mut() {
+        let sign = rng.pick(&[1.0, -1.0]);
+        row.iter_mut().for_each(|x| *x *= sign);
+    }
+    for k in (1..d).rev() {
+        rows.swap(k, rng.index(k + 1));
+    }
+    rows.concat()
+}
+
+fn gauge_matrix(d: usize, rng: &mut Rng) -> Vec<f64> {
+    let style = rng.below(20);
+    match style {
+        0 | 1 if d > 0 => return triangular_at_threshold(d, rng),
+        2 if d > 1 => return product_at_threshold(d, rng),
+        17 if d > 3 && rng.chance(50) => return nan_beside_small(d, rng),
+        _ => {}
+    }
     let turn = rng.index(d);
+    let mut transform = vec![0.0; d * d];
     for i in 0..d {
         for j in 0..d {
             let one = if i == j { 1.0 } else { 0.0 };
             transform[i * d + j] = match style {
-                0..=2 => one + 0.2 * rng.signed(),
-                3 | 4 => rng.signed(),
-                5 => numbers::grid(rng),
-                6 if j == (i + turn) % d => rng.pick(&[1.0, -1.0, 2.0, 0.5]),
-                6 => 0.0,
-                7 if j >= i => rng.signed(),
-                7 => 0.0,
+                3..=5 => one + 0.2 * rng.signed(),
+                6 | 7 => rng.signed(),
+                8 => numbers::grid(rng),
+                9 => rng.pick(&[1.0, -1.0]),
+                10 if j == (i + turn) % d => rng.pick(&[1.0, -1.0, 2.0, 0.5]),
+                10 => 0.0,
+                11 if j >= i => rng.signed(),
+                11 => 0.0,
                 // Sizes about where the pivot threshold stands.
-                8 => one * if rng.chance(50) { power(-rng.pick(&[40, 41, 42, 43, 44, 45, 46])) } else { 1.0 },
-                9 => numbers::scaled(rng, -30, 30),
-                10 => numbers::finite(rng),
-                _ => one * power(rng.below(2000) as i64 - 1000),
+                12 => one * if rng.chance(50) { power(-rng.pick(&[40, 41, 42, 43, 44, 45, 46])) } else { 1.0 },
+                13 => numbers::scaled(rng, -30, 30),
+                14 => numbers::finite(rng),
+                15 => one * power(rng.below(2000) as i64 - 1000),
+                // Sums that leave the range while the inversion runs.
+                16 => rng.pick(&[f64::MAX, -f64::MAX, f64::MAX / 2.0, -f64::MAX / 2.0, f64::MAX / 4.0]),
+                17 => rng.pick(&[f64::MAX, -f64::MAX, f64::MAX / 2.0, 0.0, power(900)]),
+                // The threshold is a subnormal or rounds to zero.
+                18 => numbers::scaled(rng, -1074, -1015),
+                _ => rng.pick(&[0.0, 5e-324, -5e-324, 1e-323, power(-1030), -power(-1028), power(-1022)]),
             };
         }
     }
-    if d > 1 && rng.chance(6) {
+    if d > 1 && rng.chance(8) {
+        // A row that depends on others, or a column of zeros.
+        let (style, column) = (rng.below(3), rng.index(d));
         for j in 0..d {
-            transform[(d - 1) * d + j] = 2.0 * transform[j];
+            match style {
+                0 => transform[(d - 1) * d + j] = 2.0 * transform[j],
+                1 => transform[(d - 1) * d + j] = 0.5 * transform[j] + 0.5 * transform[(d / 2) * d + j],
+                _ => transform[j * d + column] = 0.0,
+            }
         }
     }
-    words.extend(words_of(&transform));
+    if rng.chance(1) {
+        transform.fill(0.0);
+    }
+    transform
+}
+
+pub fn gauge(rng: &mut Rng) -> Vec<u64> {
+    let head = gauge_shape(rng);
+    let mut words = vec![head.word()];
+    words.extend(if rng.chance(40) { any_model(&head, rng) } else { model(&head, rng) });
+    if rng.chance(6) {
+        spoil_model(&mut words, 1, &head, rng);
+    }
+    words.extend(words_of(&gauge_matrix(head.d, rng)));
     words
 }
 

@@ -1,6 +1,7 @@
-//! Cards to try, made from a seed.
+//! Cards and library calls to try, made from a seed.
 
 pub mod arguments;
+pub mod calls;
 pub mod damage;
 mod density;
 pub mod fixed;

@@ -3,76 +3,150 @@
 use super::numbers::{self, power};
 use super::{least_rotations, words_of};
 use crate::card::Head;
+use crate::hooks::with_pivots;
 use crate::random::Rng;
-use crate::tomography::product_probe_expectations;
+use crate::tomography::{process_linear_inversion, product_probe_expectations};
 
-pub fn process(rng: &mut Rng) -> Vec<u64> {
-    let n = rng.pick(&[1, 1, 1, 2]);
-    let p = 1usize << (2 * n);
-    let tolerance = match rng.below(10) {
-        0 => numbers::tolerance(rng),
-        1 => rng.unit(),
-        _ => power(-8 - rng.below(40) as i64),
-    };
-    let style = rng.below(8);
+/// Input vectors in one of many styles, every first entry 1.
+fn input_vectors(n: usize, style: u64, rng: &mut Rng) -> Vec<Vec<f64>> {
     let mut inputs = product_probe_expectations(n).expect("n is 1 or 2");
     for row in inputs.iter_mut() {
         for x in row.iter_mut().skip(1) {
             match style {
-                0 | 1 => {}
-                2..=4 => *x += 0.1 * rng.signed(),
-                5 => *x = rng.signed(),
-                6 => *x = numbers::grid(rng),
-                _ => *x = numbers::scaled(rng, -20, 20),
+                0..=2 => {}
+                3..=5 => *x += 0.1 * rng.signed(),
+                6 => *x = rng.signed(),
+                7 => *x = numbers::grid(rng),
+                8 => *x = rng.pick(&[0.0, -0.0, 1.0, -1.0]),
+                9 => *x = numbers::scaled(rng, -20, 20),
+                10 => *x = numbers::finite(rng),
+                11 => *x = rng.pick(HUGE),
+                _ => *x = rng.pick(&[f64::MAX, -f64::MAX, f64::MAX / 2.0, 0.0]),
             }
         }
     }
     // Other orders of the probes move the pivots.
     if rng.chance(50) {
-        for k in (1..p).rev() {
+        for k in (1..inputs.len()).rev() {
             inputs.swap(k, rng.index(k + 1));
         }
     }
-    match rng.below(16) {
-        0 => inputs[p - 1] = inputs[0].clone(),
-        1 => {
-            let (first, small) = (inputs[0].clone(), tolerance * rng.unit() * 4.0);
-            for (x, y) in inputs[p - 1].iter_mut().zip(first).skip(1) {
-                *x = y + small * rng.signed();
-            }
-        }
-        _ => {}
+    inputs
+}
+
+/// Sums and quotients of these leave the range.
+const HUGE: &[f64] = &[f64::MAX, -f64::MAX, f64::MAX / 2.0, -f64::MAX / 2.0, f64::MAX / 8.0, 1.0, 0.5, 0.0, -0.0];
+
+/// One-qubit vectors by which a NaN and the identity's number meet in the third column, and a tolerance that the latter may
+/// or may not pass: the first two columns overflow.
+fn nan_beside_small(rng: &mut Rng) -> (Vec<Vec<f64>>, f64) {
+    let max = f64::MAX;
+    let mut places = [1, 2, 3];
+    places.swap(0, rng.index(3));
+    let [a, b, c] = places;
+    let mut vectors = vec![vec![1.0; 4]; 4];
+    for (k, vector) in vectors.iter_mut().enumerate() {
+        (vector[a], vector[b], vector[c]) = match k {
+            0 => (max, max, max),
+            1 => (max, max, -max),
+            _ => (max * rng.signed(), max * rng.signed(), 0.0),
+        };
     }
+    (vectors, power(-1026 + rng.below(6) as i64))
+}
+
+/// Makes the last vector depend on others, or nearly so.
+fn make_dependent(inputs: &mut [Vec<f64>], tolerance: f64, rng: &mut Rng) {
+    let last = inputs.len() - 1;
+    let (first, second) = (inputs[0].clone(), inputs[1].clone());
+    let small = if rng.chance(50) { tolerance * rng.unit() * 4.0 } else { 0.0 };
+    let middle = rng.chance(50);
+    for (k, x) in inputs[last].iter_mut().enumerate().skip(1) {
+        *x = if middle { 0.5 * first[k] + 0.5 * second[k] } else { first[k] };
+        *x += small * rng.signed();
+    }
+}
+
+/// A tolerance with which a pivot stands at its threshold, or one float beside it.
+fn tolerance_at_pivot(n: usize, inputs: &[Vec<f64>], rng: &mut Rng) -> Option<f64> {
+    let (_, pivots) = with_pivots(|| process_linear_inversion(n, inputs, inputs, power(-1074)));
+    let scale = inputs.iter().flatten().fold(0.0f64, |scale, x| scale.max(x.abs()));
+    let least = pivots.iter().map(|pivot| pivot.size).fold(f64::INFINITY, f64::min);
+    let size = if rng.chance(70) || pivots.is_empty() { least } else { rng.pick(&pivots).size };
+    let beside = [size, size.next_up(), size.next_down()][rng.index(3)];
+    let near = beside / scale;
+    // Not every size is a product with the scale.
+    let exact = [near, near.next_up(), near.next_down()].into_iter().find(|t| t * scale == beside).unwrap_or(near);
+    (exact.is_finite() && exact > 0.0).then_some(exact)
+}
+
+fn output_vectors(n: usize, inputs: &[Vec<f64>], noise: bool, rng: &mut Rng) -> Vec<Vec<f64>> {
+    let p = inputs.len();
     let transfer = transfer_values(n, rng);
     let mut outputs: Vec<Vec<f64>> = inputs
         .iter()
         .map(|input| (0..p).map(|i| (0..p).map(|j| transfer[i * p + j] * input[j]).sum()).collect())
         .collect();
+    let zeros = rng.chance(12);
+    let huge = rng.chance(8);
     for row in outputs.iter_mut() {
         row[0] = 1.0;
-        if style > 1 {
-            for x in row.iter_mut().skip(1) {
+        for x in row.iter_mut().skip(1) {
+            if zeros {
+                *x = if rng.chance(80) { -0.0 } else { 0.0 };
+            } else if noise {
                 *x += 0.01 * rng.signed();
             }
-        }
-    }
-    if rng.chance(10) {
-        let row = rng.index(p);
-        inputs[row][0] = numbers::identity(rng, tolerance);
-    }
-    if rng.chance(10) {
-        let row = rng.index(p);
-        outputs[row][0] = numbers::identity(rng, tolerance);
-    }
-    if rng.chance(8) {
-        // Products that leave the range.
-        for row in outputs.iter_mut() {
-            for x in row.iter_mut().skip(1) {
+            if huge {
+                // Products that leave the range.
                 *x *= power(1000 + rng.below(23) as i64);
             }
         }
     }
-    let settled = |rows: Vec<Vec<f64>>| rows.concat().into_iter().map(numbers::settled).collect::<Vec<_>>();
+    outputs
+}
+
+/// Identities that are not 1: one of them anywhere, or all of them within the tolerance.
+fn disturb_identities(vectors: &mut [Vec<f64>], tolerance: f64, rng: &mut Rng) {
+    match rng.below(20) {
+        0 | 1 => vectors[rng.index(vectors.len())][0] = numbers::identity(rng, tolerance),
+        2 => {
+            for vector in vectors.iter_mut() {
+                vector[0] = 1.0 + 0.9 * tolerance.min(1.0) * rng.signed();
+            }
+        }
+        _ => {}
+    }
+}
+
+pub fn process(rng: &mut Rng) -> Vec<u64> {
+    let n = rng.pick(&[1, 1, 1, 2]);
+    let style = rng.below(13);
+    let mut inputs = input_vectors(n, style, rng);
+    let mut tolerance = match rng.below(10) {
+        0 => numbers::tolerance(rng),
+        1 => rng.unit(),
+        // Beside huge numbers a pivot of usual size passes only a tiny tolerance.
+        _ if style > 9 => power(-1074 + rng.below(80) as i64),
+        _ => power(-8 - rng.below(40) as i64),
+    };
+    if n == 1 && rng.chance(3) {
+        (inputs, tolerance) = nan_beside_small(rng);
+    } else if rng.chance(12) {
+        make_dependent(&mut inputs, tolerance, rng);
+    }
+    if rng.chance(15) {
+        tolerance = tolerance_at_pivot(n, &inputs, rng).unwrap_or(tolerance);
+    }
+    let mut outputs = output_vectors(n, &inputs, style > 2, rng);
+    disturb_identities(&mut inputs, tolerance, rng);
+    disturb_identities(&mut outputs, tolerance, rng);
+    // A vector that is not finite hides what comes after it, so most of those that arose are tamed.
+    let tame = rng.chance(90);
+    let settled = |rows: Vec<Vec<f64>>| -> Vec<f64> {
+        let tamed = |x: f64| if tame && !x.is_finite() { 0.5 } else { numbers::settled(x) };
+        rows.concat().into_iter().map(tamed).collect()
+    };
     let mut words = vec![Head { kind: 3, n, ..Head::default() }.word(), tolerance.to_bits()];
     words.extend(words_of(&settled(inputs)));
     words.extend(words_of(&settled(outputs)));

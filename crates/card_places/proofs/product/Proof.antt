@@ -1,7 +1,7 @@
 -- `card_places::product` meets its contract. Assumes nothing.
 use Prim.Native.Nat.{_^_}
 use native.Mathlib.Omega.{arith}
-use Rattle.card_places.proofs.Sizes.{product-le}
+use Rattle.sizes.proofs.Small.{product-le}
 use borrow.Author.Needs.{needs}
 use Rattle.card_places.proofs.product.Statement.{statement}
 use Rattle.card_places.proofs.product.Tie as tie

@@ -1,12 +1,11 @@
 -- `elimination::copy_row` meets its contract. Assumes nothing.
 use Prim.Native.Nat.{_≤_, _-_, _+_}
-use mathlib.Core.Path.{_≡_, refl, ap, _∙_}
-use mathlib.Core.List.{List, _++_}
+use mathlib.Core.Path.{_≡_, refl}
 use native.Mathlib.Omega.{arith}
 use denote.Ref.{now}
-use lib.ListN.{length, drop}
-use lib.Ieee.{Float, nan}
-use Rattle.lists.proofs.Filling.{Filled, fill-none, fill-more, fill-end, build-part}
+use lib.ListN.{length}
+use lib.Ieee.{nan}
+use Rattle.lists.proofs.Filling.{Filled, fill-none, fill-more, copy-end}
 use Rattle.numbers.specs.Slice.{at}
 use borrow.Author.Needs.{needs}
 use Rattle.elimination.proofs.copy_row.Statement.{statement}
@@ -49,7 +48,7 @@ same-length : tie.Need-same-length Inv-loop μ-loop
 same-length c = search needs
 
 returns : tie.Need-returns Inv-loop μ-loop
-returns c = fill-end _ _ _ _ _ (omega arith) (c .before .loop .inv .2) ∙ ap (λ (l : List Float). l ++ drop (c .before .before .args .w) (now (c .before .before .args .out))) (build-part nan (c .before .before .args .start) (c .before .before .args .w) (now (c .before .before .args .from)) (search needs))
+returns c = copy-end nan (c .before .before .args .start) (c .before .before .args .w) _ (now (c .before .before .args .from)) _ _ (search needs) (omega arith) (c .before .loop .inv .2)
 
 pub copy-row-spec : {M : Type 1} → statement M
 copy-row-spec =

@@ -1,13 +1,12 @@
 -- `elimination::put_row` meets its contract. Assumes nothing.
 use Prim.Native.Nat.{_≤_, _-_}
-use mathlib.Core.Path.{_≡_, refl, _∙_}
+use mathlib.Core.Path.{_≡_, refl}
 use native.Mathlib.Omega.{arith}
 use denote.Ref.{now}
 use lib.ListN.{length}
 use lib.Ieee.{nan}
-use Rattle.lists.proofs.Filling.{Filled, fill-none, fill-more, fill-all}
+use Rattle.lists.proofs.Filling.{Filled, fill-none, fill-more, copy-all}
 use Rattle.numbers.specs.Slice.{at}
-use Rattle.elimination.proofs.Lent.{build-front}
 use borrow.Author.Needs.{needs}
 use Rattle.elimination.proofs.put_row.Statement.{statement}
 use Rattle.elimination.proofs.put_row.Tie as tie
@@ -46,7 +45,7 @@ same-length : tie.Need-same-length Inv-loop μ-loop
 same-length c = search needs
 
 returns : tie.Need-returns Inv-loop μ-loop
-returns c = fill-all _ _ _ _ (omega arith) (c .before .loop .inv .2) ∙ build-front nan _ (now (c .before .before .args .from)) (search needs)
+returns c = copy-all nan _ (now (c .before .before .args .from)) _ _ (search needs) (omega arith) (c .before .loop .inv .2)
 
 pub put-row-spec : {M : Type 1} → statement M
 put-row-spec =

@@ -1,6 +1,6 @@
 -- `exports::mintshuttle_setting` meets its contract. Assumes nothing.
+use Rattle.exports.proofs.Entries.{nothing-told, all-told}
 use mathlib.Core.Path.{refl}
-use Rattle.exports.proofs.Entries.{entry-silent, entry-told}
 use borrow.Author.Needs.{needs}
 use Rattle.exports.proofs.mintshuttle_setting.Statement.{statement}
 use Rattle.exports.proofs.mintshuttle_setting.Tie as tie
@@ -12,13 +12,13 @@ same-length : tie.Need-same-length
 same-length c = search needs
 
 returns : tie.Need-returns
-returns c = entry-silent _ _ _ _ _ _ _ (c .before .before .before .before .if1 .taken) refl refl (c .before .before .clear .ensures)
+returns c = nothing-told _ _ _ _ _ _ _ (c .before .before .before .before .if1 .taken) refl refl (c .before .before .clear .ensures)
 
 local-pauli-setting-requires : tie.Need-local-pauli-setting-requires
 local-pauli-setting-requires c κs = search needs
 
-put-library-requires : tie.Need-put-library-requires
-put-library-requires c κs = search needs
+put-answer-requires : tie.Need-put-answer-requires
+put-answer-requires c κs = search needs
 
 same-length-2 : tie.Need-same-length-2
 same-length-2 c = search needs
@@ -30,7 +30,7 @@ same-length-4 : tie.Need-same-length-4
 same-length-4 c = search needs
 
 returns-2 : tie.Need-returns-2
-returns-2 c = entry-told _ _ _ _ _ _ _ _ _ (c .before .before .before .before .before .before .before .before .before .before .before .if1 .left) (c .before .before .before .before .before .before .before .before .local-pauli-setting .ensures) (c .before .before .put-library .ensures .0) (c .before .before .put-library .ensures .1)
+returns-2 c = all-told _ _ _ _ _ _ _ _ _ (c .before .before .before .before .before .before .before .before .before .before .before .if1 .left) (c .before .before .before .before .before .before .before .before .local-pauli-setting .ensures) (c .before .before .put-answer .ensures)
 
 pub mintshuttle-setting-spec : {M : Type 1} → statement M
 mintshuttle-setting-spec =
@@ -40,7 +40,7 @@ mintshuttle-setting-spec =
     same-length
     returns
     local-pauli-setting-requires
-    put-library-requires
+    put-answer-requires
     same-length-2
     same-length-3
     same-length-4

@@ -1,6 +1,6 @@
 -- `exports::mintshuttle_sheet` meets its contract. Assumes nothing.
+use Rattle.exports.proofs.Entries.{nothing-told, all-told}
 use mathlib.Core.Path.{refl}
-use Rattle.exports.proofs.Words.{nothing-told, all-told}
 use borrow.Author.Needs.{needs}
 use Rattle.exports.proofs.mintshuttle_sheet.Statement.{statement}
 use Rattle.exports.proofs.mintshuttle_sheet.Tie as tie
@@ -30,7 +30,7 @@ same-length-4 : tie.Need-same-length-4
 same-length-4 c = search needs
 
 returns-2 : tie.Need-returns-2
-returns-2 c = all-told _ _ _ _ _ _ _ _ _ (c .before .before .before .before .before .before .before .before .before .before .before .if1 .left) (c .before .before .before .before .before .before .before .before .sheet .ensures) (c .before .before .put-answer .ensures .0) (c .before .before .put-answer .ensures .1)
+returns-2 c = all-told _ _ _ _ _ _ _ _ _ (c .before .before .before .before .before .before .before .before .before .before .before .if1 .left) (c .before .before .before .before .before .before .before .before .sheet .ensures) (c .before .before .put-answer .ensures)
 
 pub mintshuttle-sheet-spec : {M : Type 1} → statement M
 mintshuttle-sheet-spec =

@@ -1,9 +1,7 @@
 -- `exports::put_answer` meets its contract. Assumes nothing.
-use mathlib.Core.Path.{sym, ap, _∙_}
-use denote.Ref.{now}
-use Rattle.lists.specs.Build.{over}
-use Rattle.tomography.specs.declared.Answer.{Answer}
+use Rattle.exports.proofs.Words.{in-case}
 use Rattle.exports.specs.Exported.{answerCode, answerWords}
+use denote.Ref.{now}
 use borrow.Author.Needs.{needs}
 use Rattle.exports.proofs.put_answer.Statement.{statement}
 use Rattle.exports.proofs.put_answer.Tie as tie
@@ -11,11 +9,41 @@ use Rattle.exports.proofs.put_answer.Tie as tie
 enum-known-a : tie.Need-enum-known-a
 enum-known-a c = search needs
 
-put-requires : tie.Need-put-requires
-put-requires c κs = search needs
+put-header-requires : tie.Need-put-header-requires
+put-header-requires c κs = search needs
 
 enum-known-a-2 : tie.Need-enum-known-a-2
 enum-known-a-2 c = search needs
+
+put-header-requires-2 : tie.Need-put-header-requires-2
+put-header-requires-2 c κs = search needs
+
+enum-known-a-3 : tie.Need-enum-known-a-3
+enum-known-a-3 c = search needs
+
+put-header-requires-3 : tie.Need-put-header-requires-3
+put-header-requires-3 c κs = search needs
+
+enum-known-a-4 : tie.Need-enum-known-a-4
+enum-known-a-4 c = search needs
+
+put-header-requires-4 : tie.Need-put-header-requires-4
+put-header-requires-4 c κs = search needs
+
+enum-known-a-5 : tie.Need-enum-known-a-5
+enum-known-a-5 c = search needs
+
+put-header-requires-5 : tie.Need-put-header-requires-5
+put-header-requires-5 c κs = search needs
+
+enum-known-a-6 : tie.Need-enum-known-a-6
+enum-known-a-6 c = search needs
+
+put-header-requires-6 : tie.Need-put-header-requires-6
+put-header-requires-6 c κs = search needs
+
+enum-known-a-7 : tie.Need-enum-known-a-7
+enum-known-a-7 c = search needs
 
 put-refusal-requires : tie.Need-put-refusal-requires
 put-refusal-requires c κs = search needs
@@ -24,23 +52,73 @@ same-length : tie.Need-same-length
 same-length c = search needs
 
 returns : tie.Need-returns
-returns c = (ap answerCode (sym (c .before .before .before .before .before .a .given .1)), c .before .before .put .ensures ∙ ap (λ (x : Answer). over (answerWords x) (now (c .before .before .before .before .before .before .before .before .args .out))) (sym (c .before .before .before .before .before .a .given .1)))
+returns c = in-case answerCode answerWords (now (c .before .before .before .before .before .before .before .before .args .out)) (c .before .before .before .before .before .a .given .1) (c .before .before .put-header .ensures .0) (c .before .before .put-header .ensures .1)
 
 same-length-2 : tie.Need-same-length-2
 same-length-2 c = search needs
 
 returns-2 : tie.Need-returns-2
-returns-2 c = (c .before .before .put-refusal .ensures .0 ∙ ap answerCode (sym (c .before .before .before .before .before .a2 .given .1)), c .before .before .put-refusal .ensures .1 ∙ ap (λ (x : Answer). over (answerWords x) (now (c .before .before .before .before .before .before .before .before .args .out))) (sym (c .before .before .before .before .before .a2 .given .1)))
+returns-2 c = in-case answerCode answerWords (now (c .before .before .before .before .before .before .before .before .args .out)) (c .before .before .before .before .before .a2 .given .1) (c .before .before .put-header2 .ensures .0) (c .before .before .put-header2 .ensures .1)
+
+same-length-3 : tie.Need-same-length-3
+same-length-3 c = search needs
+
+returns-3 : tie.Need-returns-3
+returns-3 c = in-case answerCode answerWords (now (c .before .before .before .before .before .before .before .before .args .out)) (c .before .before .before .before .before .a3 .given .1) (c .before .before .put-header3 .ensures .0) (c .before .before .put-header3 .ensures .1)
+
+same-length-4 : tie.Need-same-length-4
+same-length-4 c = search needs
+
+returns-4 : tie.Need-returns-4
+returns-4 c = in-case answerCode answerWords (now (c .before .before .before .before .before .before .before .before .args .out)) (c .before .before .before .before .before .a4 .given .1) (c .before .before .put-header4 .ensures .0) (c .before .before .put-header4 .ensures .1)
+
+same-length-5 : tie.Need-same-length-5
+same-length-5 c = search needs
+
+returns-5 : tie.Need-returns-5
+returns-5 c = in-case answerCode answerWords (now (c .before .before .before .before .before .before .before .before .args .out)) (c .before .before .before .before .before .a5 .given .1) (c .before .before .put-header5 .ensures .0) (c .before .before .put-header5 .ensures .1)
+
+same-length-6 : tie.Need-same-length-6
+same-length-6 c = search needs
+
+returns-6 : tie.Need-returns-6
+returns-6 c = in-case answerCode answerWords (now (c .before .before .before .before .before .before .before .before .args .out)) (c .before .before .before .before .before .a6 .given .1) (c .before .before .put-header6 .ensures .0) (c .before .before .put-header6 .ensures .1)
+
+same-length-7 : tie.Need-same-length-7
+same-length-7 c = search needs
+
+returns-7 : tie.Need-returns-7
+returns-7 c = in-case answerCode answerWords (now (c .before .before .before .before .before .before .before .before .args .out)) (c .before .before .before .before .before .a7 .given .1) (c .before .before .put-refusal .ensures .0) (c .before .before .put-refusal .ensures .1)
 
 pub put-answer-spec : {M : Type 1} → statement M
 put-answer-spec =
     tie.close
     (tie.spec
     enum-known-a
-    put-requires
+    put-header-requires
     enum-known-a-2
+    put-header-requires-2
+    enum-known-a-3
+    put-header-requires-3
+    enum-known-a-4
+    put-header-requires-4
+    enum-known-a-5
+    put-header-requires-5
+    enum-known-a-6
+    put-header-requires-6
+    enum-known-a-7
     put-refusal-requires
     same-length
     returns
     same-length-2
-    returns-2)
+    returns-2
+    same-length-3
+    returns-3
+    same-length-4
+    returns-4
+    same-length-5
+    returns-5
+    same-length-6
+    returns-6
+    same-length-7
+    returns-7)

@@ -1,9 +1,7 @@
 -- `exports::put_reading` meets its contract. Assumes nothing.
-use mathlib.Core.Path.{sym, ap, _∙_}
-use denote.Ref.{now}
-use Rattle.lists.specs.Build.{over}
-use Rattle.card.specs.declared.Reading.{Reading}
+use Rattle.exports.proofs.Words.{in-case}
 use Rattle.exports.specs.Exported.{readingCode, readingWords}
+use denote.Ref.{now}
 use borrow.Author.Needs.{needs}
 use Rattle.exports.proofs.put_reading.Statement.{statement}
 use Rattle.exports.proofs.put_reading.Tie as tie
@@ -11,8 +9,8 @@ use Rattle.exports.proofs.put_reading.Tie as tie
 enum-known-a : tie.Need-enum-known-a
 enum-known-a c = search needs
 
-put-requires : tie.Need-put-requires
-put-requires c κs = search needs
+put-header-requires : tie.Need-put-header-requires
+put-header-requires c κs = search needs
 
 enum-known-a-2 : tie.Need-enum-known-a-2
 enum-known-a-2 c = search needs
@@ -24,20 +22,20 @@ same-length : tie.Need-same-length
 same-length c = search needs
 
 returns : tie.Need-returns
-returns c = (ap readingCode (sym (c .before .before .before .before .before .a .given .1)), c .before .before .put .ensures ∙ ap (λ (x : Reading). over (readingWords x) (now (c .before .before .before .before .before .before .before .before .args .out))) (sym (c .before .before .before .before .before .a .given .1)))
+returns c = in-case readingCode readingWords (now (c .before .before .before .before .before .before .before .before .args .out)) (c .before .before .before .before .before .a .given .1) (c .before .before .put-header .ensures .0) (c .before .before .put-header .ensures .1)
 
 same-length-2 : tie.Need-same-length-2
 same-length-2 c = search needs
 
 returns-2 : tie.Need-returns-2
-returns-2 c = (c .before .before .put-refusal .ensures .0 ∙ ap readingCode (sym (c .before .before .before .before .before .a2 .given .1)), c .before .before .put-refusal .ensures .1 ∙ ap (λ (x : Reading). over (readingWords x) (now (c .before .before .before .before .before .before .before .before .args .out))) (sym (c .before .before .before .before .before .a2 .given .1)))
+returns-2 c = in-case readingCode readingWords (now (c .before .before .before .before .before .before .before .before .args .out)) (c .before .before .before .before .before .a2 .given .1) (c .before .before .put-refusal .ensures .0) (c .before .before .put-refusal .ensures .1)
 
 pub put-reading-spec : {M : Type 1} → statement M
 put-reading-spec =
     tie.close
     (tie.spec
     enum-known-a
-    put-requires
+    put-header-requires
     enum-known-a-2
     put-refusal-requires
     same-length

@@ -7,9 +7,8 @@ use denote.Ref.{now}
 use lib.ListN.{length}
 use Rattle.lists.specs.Build.{build}
 use Rattle.lists.proofs.Filling.{Filled, fill-all}
-use Rattle.lists.proofs.Parts.{row-fits}
+use Rattle.lists.proofs.Parts.{row-fits, lent-long}
 use Rattle.lists.proofs.Rows.{rows-none, rows-more}
-use Rattle.elimination.proofs.Lent.{lent-long}
 use Rattle.inversion.specs.Inversion.{besideIdentity}
 use Rattle.inversion.proofs.Halves.{besideNumber, beside-row}
 use borrow.Author.Needs.{needs}

@@ -1,61 +1,80 @@
 -- `inversion::beside_row` meets its contract. Assumes nothing.
-use Prim.Native.Nat.{ℕ, _≤_, _-_}
-use mathlib.Core.Path.{_≡_, ap, _∙_}
+use Prim.Native.Nat.{_+_, _*_}
+use mathlib.Core.Path.{sym, refl}
 use native.Mathlib.Omega.{arith}
 use denote.Ref.{now}
-use lib.ListN.{length}
-use Rattle.lists.specs.Build.{build}
-use Rattle.lists.proofs.Filling.{Filled, fill-none, fill-more, fill-all}
-use Rattle.inversion.specs.Inversion.{besideAt}
+use lib.Seq.{length-take-le}
+use Rattle.lists.proofs.Parts.{row-fits, lent-long}
+use Rattle.inversion.proofs.Halves.{beside-back}
 use borrow.Author.Needs.{needs}
 use Rattle.inversion.proofs.beside_row.Statement.{statement}
 use Rattle.inversion.proofs.beside_row.Tie as tie
 
-abbrev Inv-loop : tie.InvT-loop
-Inv-loop a n i row₀ w j₀ row j = (j ≤ w) × (length row ≡ length row₀) × Filled (besideAt n a i) row₀ j row
+mul-start : tie.Need-mul-start
+mul-start c = omega (arith, row-fits (c .before .before .args .i) (c .before .before .args .n) (c .before .before .args .n) _ (c .before .before .pre .1) (c .before .before .pre .2))
 
-abbrev μ-loop : tie.MeasureT-loop
-μ-loop a n i row₀ w j₀ row j = w - j
+add-end : tie.Need-add-end
+add-end c = omega (arith, row-fits (c .before .before .args .i) (c .before .before .args .n) (c .before .before .args .n) _ (c .before .before .pre .1) (c .before .before .pre .2))
 
-loop-holds : tie.Need-loop-holds Inv-loop μ-loop
-loop-holds c = (search needs, search needs, fill-none _ _)
+slice-relend-prefix-put-row : tie.Need-slice-relend-prefix-put-row
+slice-relend-prefix-put-row c = search needs
 
-beside-at-requires : tie.Need-beside-at-requires Inv-loop μ-loop
-beside-at-requires c κs = search needs
+slice-aggregate-put-row : tie.Need-slice-aggregate-put-row
+slice-aggregate-put-row c = sym (length-take-le _ _ (omega arith))
 
-mul-row : tie.Need-mul-row Inv-loop μ-loop
-mul-row c = search needs
+mul-put-row : tie.Need-mul-put-row
+mul-put-row c = omega (arith, row-fits (c .before .before .before .args .i) (c .before .before .before .args .n) (c .before .before .before .args .n) _ (c .before .before .before .pre .1) (c .before .before .before .pre .2))
 
-slice-write-row : tie.Need-slice-write-row Inv-loop μ-loop
-slice-write-row c = search needs
+sub-put-row : tie.Need-sub-put-row
+sub-put-row c = search needs
 
-add-j : tie.Need-add-j Inv-loop μ-loop
-add-j c = search needs
+part-put-row-start : tie.Need-part-put-row-start
+part-put-row-start c = search needs
 
-loop-less : tie.Need-loop-less Inv-loop μ-loop
-loop-less c = search needs
+part-put-row-end : tie.Need-part-put-row-end
+part-put-row-end c = omega (arith, row-fits (c .before .before .before .args .i) (c .before .before .before .args .n) (c .before .before .before .args .n) _ (c .before .before .before .pre .1) (c .before .before .before .pre .2))
 
-loop-again : tie.Need-loop-again Inv-loop μ-loop
-loop-again c = (search needs, search needs, fill-more _ _ _ _ _ (search needs) (c .before .before .loop .inv .2) (c .beside-at .ensures))
+put-row-requires : tie.Need-put-row-requires
+put-row-requires c κs = omega (arith, length-take-le (c .before .before .before .before .args .n) (now (c .before .before .before .before .args .row)) (omega arith), lent-long (c .before .before .before .before .args .i * c .before .before .before .before .args .n) (c .before .before .before .before .args .i * c .before .before .before .before .args .n + c .before .before .before .before .args .n) (c .before .before .before .before .args .n) (now (c .before .before .before .before .args .a)) refl (row-fits (c .before .before .before .before .args .i) (c .before .before .before .before .args .n) (c .before .before .before .before .args .n) _ (c .before .before .before .before .pre .1) (c .before .before .before .before .pre .2)))
 
-same-length : tie.Need-same-length Inv-loop μ-loop
+mul-unit-row : tie.Need-mul-unit-row
+mul-unit-row c = search needs
+
+sub-unit-row : tie.Need-sub-unit-row
+sub-unit-row c = search needs
+
+part-unit-row-start : tie.Need-part-unit-row-start
+part-unit-row-start c = search needs
+
+part-unit-row-end : tie.Need-part-unit-row-end
+part-unit-row-end c = search needs
+
+unit-row-requires : tie.Need-unit-row-requires
+unit-row-requires c κs = search needs
+
+same-length : tie.Need-same-length
 same-length c = search needs
 
-returns : tie.Need-returns Inv-loop μ-loop
-returns c = fill-all _ _ _ _ (omega arith) (c .before .loop .inv .2) ∙ ap (λ (m : ℕ). build m (besideAt (c .before .before .before .before .args .n) (now (c .before .before .before .before .args .a)) (c .before .before .before .before .args .i))) (c .before .before .before .before .pre .3)
+returns : tie.Need-returns
+returns c = beside-back (c .before .before .before .before .before .before .before .before .before .before .before .args .n) (c .before .before .before .before .before .before .before .before .before .before .before .args .i) _ (now (c .before .before .before .before .before .before .before .before .before .before .before .args .a)) (now (c .before .before .before .before .before .before .before .before .before .before .before .args .row)) _ _ (row-fits (c .before .before .before .before .before .before .before .before .before .before .before .args .i) (c .before .before .before .before .before .before .before .before .before .before .before .args .n) (c .before .before .before .before .before .before .before .before .before .before .before .args .n) _ (c .before .before .before .before .before .before .before .before .before .before .before .pre .1) (c .before .before .before .before .before .before .before .before .before .before .before .pre .2)) (c .before .before .before .before .before .before .before .before .before .before .before .pre .3) refl (c .before .before .before .before .before .before .put-row .ensures) (c .before .before .unit-row .ensures)
 
 pub beside-row-spec : {M : Type 1} → statement M
 beside-row-spec =
     tie.close
     (tie.spec
-    Inv-loop
-    μ-loop
-    loop-holds
-    beside-at-requires
-    mul-row
-    slice-write-row
-    add-j
-    loop-less
-    loop-again
+    mul-start
+    add-end
+    slice-relend-prefix-put-row
+    slice-aggregate-put-row
+    mul-put-row
+    sub-put-row
+    part-put-row-start
+    part-put-row-end
+    put-row-requires
+    mul-unit-row
+    sub-unit-row
+    part-unit-row-start
+    part-unit-row-end
+    unit-row-requires
     same-length
     returns)

@@ -1,13 +1,12 @@
 -- `inversion::invert_within` meets its contract. Assumes nothing.
-use Rattle.inversion.proofs.Halves.{front-again}
-use Rattle.inversion.proofs.Reductions.{none-found, one-found}
 use mathlib.Core.Path.{ap, sym, _∙_}
 use mathlib.Core.Bool.{not}
 use denote.Ref.{now}
 use lib.Seq.{length-take-le}
 use lib.Ieee.{ofBits}
 use borrow.Author.Tests.{not-true, not-false}
-use Rattle.inversion.proofs.Reductions.{all-zero, not-finite, all-reduced, no-inverse}
+use Rattle.lists.proofs.Parts.{lent-again}
+use Rattle.inversion.proofs.Reductions.{none-found, one-found, all-zero, not-finite, all-reduced, no-inverse}
 use borrow.Author.Needs.{needs}
 use Rattle.inversion.proofs.invert_within.Statement.{statement}
 use Rattle.inversion.proofs.invert_within.Tie as tie
@@ -58,7 +57,7 @@ slice-aggregate-right-halves : tie.Need-slice-aggregate-right-halves
 slice-aggregate-right-halves c = sym (length-take-le _ _ (search needs))
 
 right-halves-requires : tie.Need-right-halves-requires
-right-halves-requires c κs = (search needs, front-again (c .before .before .before .before .before .reduce .last .1 .1 .1 .0) _ _ (c .before .before .before .before .before .reduce .kept .1 .1 .1 .0 ∙ length-take-le _ _ (c .before .before .before .before .before .before .before .before .before .before .before .before .before .before .pre .2)), search needs)
+right-halves-requires c κs = (search needs, lent-again (c .before .before .before .before .before .reduce .last .1 .1 .1 .0) _ _ (c .before .before .before .before .before .reduce .kept .1 .1 .1 .0 ∙ length-take-le _ _ (c .before .before .before .before .before .before .before .before .before .before .before .before .before .before .pre .2)), search needs)
 
 same-length-2 : tie.Need-same-length-2
 same-length-2 c = search needs

@@ -6,9 +6,8 @@ use native.Mathlib.Omega.{arith}
 use denote.Ref.{now}
 use lib.ListN.{length}
 use Rattle.lists.proofs.Filling.{Filled, fill-end}
-use Rattle.lists.proofs.Parts.{row-fits}
+use Rattle.lists.proofs.Parts.{row-fits, lent-long}
 use Rattle.lists.proofs.Rows.{rows-none, rows-more}
-use Rattle.elimination.proofs.Lent.{lent-long}
 use Rattle.inversion.specs.Inversion.{rightHalves}
 use Rattle.inversion.proofs.Halves.{rightNumber, right-row}
 use borrow.Author.Needs.{needs}

@@ -1,11 +1,11 @@
 -- `matrix::add_row` meets its contract. Assumes nothing.
 use Prim.Native.Nat.{_≤_, _-_, _+_, _*_}
-use mathlib.Core.Path.{_≡_, ap}
+use mathlib.Core.Path.{_≡_, refl}
 use native.Mathlib.Omega.{arith}
 use denote.Ref.{now}
 use lib.ListN.{length}
-use lib.Ieee.{Float, nan}
-use Rattle.lists.proofs.Filling.{Filled, fill-none, fill-more, fill-all, fill-next}
+use lib.Ieee.{nan}
+use Rattle.lists.proofs.Filling.{Filled, fill-none, fill-all, map-more}
 use Rattle.numbers.specs.Number.{_+ᶠ_, _*ᶠ_}
 use Rattle.numbers.specs.Slice.{at}
 use borrow.Author.Needs.{needs}
@@ -46,7 +46,7 @@ loop-less : tie.Need-loop-less Inv-loop μ-loop
 loop-less c = search needs
 
 loop-again : tie.Need-loop-again Inv-loop μ-loop
-loop-again c = (search needs, search needs, fill-more _ _ _ _ _ (search needs) (c .before .before .before .loop .inv .2) (ap (λ (x : Float). x +ᶠ c .before .before .before .before .args .f *ᶠ at (now (c .before .before .before .before .args .other)) (c .before .before .before .loop .j)) (fill-next nan _ _ _ _ (search needs) (c .before .before .before .loop .inv .2))))
+loop-again c = (search needs, search needs, map-more nan (λ j x. x +ᶠ c .before .before .before .before .args .f *ᶠ at (now (c .before .before .before .before .args .other)) j) (now (c .before .before .before .before .args .row)) _ _ _ (search needs) (c .before .before .before .loop .inv .2) refl)
 
 same-length : tie.Need-same-length Inv-loop μ-loop
 same-length c = search needs

@@ -1,96 +1,47 @@
 -- `matrix::mat_mul` meets its contract. Assumes nothing.
-use Prim.Native.Nat.{ℕ, _≤_, _-_, _*_}
-use mathlib.Core.Path.{_≡_, refl, ap, _∙_}
-use native.Mathlib.Omega.{arith}
-use denote.Ref.{now}
-use lib.ListN.{length}
-use Rattle.lists.proofs.Filling.{Filled, fill-end}
-use Rattle.lists.proofs.Parts.{row-fits}
-use Rattle.matrix.specs.Product.{matMulOf}
-use Rattle.matrix.proofs.Sums.{row-long, productAt, product-row}
-use Rattle.lists.proofs.Rows.{rows-none, rows-more}
+use Prim.Native.Nat.{ℕ, _*_}
+use mathlib.Core.Path.{_≡_, ap}
 use borrow.Author.Needs.{needs}
 use Rattle.matrix.proofs.mat_mul.Statement.{statement}
 use Rattle.matrix.proofs.mat_mul.Tie as tie
 
-abbrev Inv-loop : tie.InvT-loop
-Inv-loop a b n out₀ i₀ out i = (i ≤ n) × (length out ≡ length out₀) × Filled (productAt n a b) out₀ (i * n) out
+mat-mul-of-requires : tie.Need-mat-mul-of-requires
+mat-mul-of-requires c κs = let e : c .before .before .before .before .before .args .n * c .before .before .before .before .before .args .n ≡ 256 = ap (λ (m : ℕ). m * m) (c .before .if1 .taken) in search needs
 
-abbrev μ-loop : tie.MeasureT-loop
-μ-loop a b n out₀ i₀ out i = n - i
-
-loop-holds : tie.Need-loop-holds Inv-loop μ-loop
-loop-holds c = (search needs, search needs, rows-none _ _ _)
-
-mul-start : tie.Need-mul-start Inv-loop μ-loop
-mul-start c = omega (arith, row-fits (c .before .loop .i) (c .before .before .before .before .before .args .n) (c .before .before .before .before .before .args .n) _ (c .loop-test .taken) (c .before .before .before .before .before .pre .1))
-
-add-end : tie.Need-add-end Inv-loop μ-loop
-add-end c = omega (arith, row-fits (c .before .loop .i) (c .before .before .before .before .before .args .n) (c .before .before .before .before .before .args .n) _ (c .loop-test .taken) (c .before .before .before .before .before .pre .1))
-
-mul-add-rows : tie.Need-mul-add-rows Inv-loop μ-loop
-mul-add-rows c = omega (arith, row-fits (c .before .loop .i) (c .before .before .before .before .before .args .n) (c .before .before .before .before .before .args .n) _ (c .loop-test .taken) (c .before .before .before .before .before .pre .1))
-
-sub-add-rows : tie.Need-sub-add-rows Inv-loop μ-loop
-sub-add-rows c = search needs
-
-part-add-rows-start : tie.Need-part-add-rows-start Inv-loop μ-loop
-part-add-rows-start c = search needs
-
-part-add-rows-end : tie.Need-part-add-rows-end Inv-loop μ-loop
-part-add-rows-end c = omega (arith, row-fits (c .before .loop .i) (c .before .before .before .before .before .args .n) (c .before .before .before .before .before .args .n) _ (c .loop-test .taken) (c .before .before .before .before .before .pre .1))
-
-mul-add-rows-2 : tie.Need-mul-add-rows-2 Inv-loop μ-loop
-mul-add-rows-2 c = omega (arith, row-fits (c .before .before .loop .i) (c .before .before .before .before .before .before .args .n) (c .before .before .before .before .before .before .args .n) _ (c .before .loop-test .taken) (c .before .before .before .before .before .before .pre .1))
-
-sub-add-rows-2 : tie.Need-sub-add-rows-2 Inv-loop μ-loop
-sub-add-rows-2 c = search needs
-
-part-add-rows-start-2 : tie.Need-part-add-rows-start-2 Inv-loop μ-loop
-part-add-rows-start-2 c = search needs
-
-part-add-rows-end-2 : tie.Need-part-add-rows-end-2 Inv-loop μ-loop
-part-add-rows-end-2 c = omega (arith, row-fits (c .before .before .loop .i) (c .before .before .before .before .before .before .args .n) (c .before .before .before .before .before .before .args .n) _ (c .before .loop-test .taken) (c .before .before .before .before .before .before .pre .3))
-
-add-rows-requires : tie.Need-add-rows-requires Inv-loop μ-loop
-add-rows-requires c κs = (search needs, omega (arith, row-long (now (c .before .before .before .before .before .before .before .args .a)) (c .before .before .before .loop .i) (c .before .before .before .before .before .before .before .args .n) _ refl (c .before .before .loop-test .taken) (c .before .before .before .before .before .before .before .pre .1)), search needs, row-long (c .before .before .before .loop .out) (c .before .before .before .loop .i) (c .before .before .before .before .before .before .before .args .n) _ refl (c .before .before .loop-test .taken) (omega arith))
-
-add-i : tie.Need-add-i Inv-loop μ-loop
-add-i c = search needs
-
-loop-less : tie.Need-loop-less Inv-loop μ-loop
-loop-less c = search needs
-
-loop-again : tie.Need-loop-again Inv-loop μ-loop
-loop-again c = (search needs, search needs, rows-more _ _ (c .before .before .before .before .before .before .loop .i) (c .before .before .before .before .before .before .before .before .before .before .args .n) _ (c .before .before .before .before .before .before .loop .out) _ refl (c .before .before .before .before .before .before .loop .inv .2) (c .before .before .add-rows .ensures ∙ product-row (c .before .before .before .before .before .before .before .before .before .before .args .n) (now (c .before .before .before .before .before .before .before .before .before .before .args .a)) (now (c .before .before .before .before .before .before .before .before .before .before .args .b)) (c .before .before .before .before .before .before .loop .i) _ refl))
-
-same-length : tie.Need-same-length Inv-loop μ-loop
+same-length : tie.Need-same-length
 same-length c = search needs
 
-returns : tie.Need-returns Inv-loop μ-loop
-unfolding matMulOf
-returns c = fill-end _ _ _ _ _ (ap (λ (i : ℕ). i * c .before .before .before .before .before .args .n) (omega arith)) (c .before .loop .inv .2)
+returns : tie.Need-returns
+returns c = rw (c .before .before .before .before .if1 .taken) (c .before .before .mat-mul-of .ensures)
+
+mat-mul-of-requires-2 : tie.Need-mat-mul-of-requires-2
+mat-mul-of-requires-2 c κs = let e : c .before .before .before .before .before .before .args .n * c .before .before .before .before .before .before .args .n ≡ 16 = ap (λ (m : ℕ). m * m) (c .before .if2 .taken) in search needs
+
+same-length-2 : tie.Need-same-length-2
+same-length-2 c = search needs
+
+returns-2 : tie.Need-returns-2
+returns-2 c = rw (c .before .before .before .before .if2 .taken) (c .before .before .mat-mul-of2 .ensures)
+
+mat-mul-of-requires-3 : tie.Need-mat-mul-of-requires-3
+mat-mul-of-requires-3 c κs = search needs
+
+same-length-3 : tie.Need-same-length-3
+same-length-3 c = search needs
+
+returns-3 : tie.Need-returns-3
+returns-3 c = search needs
 
 pub mat-mul-spec : {M : Type 1} → statement M
 mat-mul-spec =
     tie.close
     (tie.spec
-    Inv-loop
-    μ-loop
-    loop-holds
-    mul-start
-    add-end
-    mul-add-rows
-    sub-add-rows
-    part-add-rows-start
-    part-add-rows-end
-    mul-add-rows-2
-    sub-add-rows-2
-    part-add-rows-start-2
-    part-add-rows-end-2
-    add-rows-requires
-    add-i
-    loop-less
-    loop-again
+    mat-mul-of-requires
     same-length
-    returns)
+    returns
+    mat-mul-of-requires-2
+    same-length-2
+    returns-2
+    mat-mul-of-requires-3
+    same-length-3
+    returns-3)

@@ -8,6 +8,7 @@ use mathlib.Core.Path.{_≡_, ap}
 use mathlib.Core.List.{List}
 use lib.ListN.{getD}
 use denote.Ref.{now}
+use Rattle.numbers.proofs.Shifts.{beside}
 use Rattle.numbers.proofs.word_at.Statement.{statement}
 use Rattle.numbers.proofs.word_at.Tie as tie
 
@@ -33,24 +34,18 @@ mul-b c = search needs
 half-at-requires : tie.Need-half-at-requires
 half-at-requires c κs = search needs
 
-mul-result : tie.Need-mul-result
-mul-result c = search needs
-
 add-half-at : tie.Need-add-half-at
 add-half-at c = search needs
 
 half-at-requires-2 : tie.Need-half-at-requires-2
 half-at-requires-2 c κs = search needs
 
-add-result : tie.Need-add-result
-add-result c = search needs
-
 returns : tie.Need-returns
 returns c =
-    omega
-    (arith, c .before .half-at .ensures .0, c .half-at2 .ensures .0, joined (now (c .before .before .before .args .card)) (c .before .before .before .args .place))
+    let x = c .before .half-at .ensures in
+    let y = c .half-at2 .ensures in
+    let e = beside (c .before .half-at .result) 32 (c .half-at2 .result) (omega arith) (omega arith) in
+    omega (arith, e, x .0, y .0, joined (now (c .before .before .before .args .card)) (c .before .before .before .args .place))
 
 pub word-at-spec : {M : Type 1} → statement M
-word-at-spec =
-    tie.close
-    (tie.spec mul-b half-at-requires mul-result add-half-at half-at-requires-2 add-result returns)
+word-at-spec = tie.close (tie.spec mul-b half-at-requires add-half-at half-at-requires-2 returns)

@@ -4,7 +4,7 @@ use denote.Ref.{now}
 use lib.Seq.{length-take-le}
 use Rattle.lists.proofs.Parts.{front-is, front-over, front-long}
 use Rattle.pauli.specs.Density.{densityOf}
-use Rattle.pauli.proofs.Sums.{length-density, room, tested-yes, tested-no}
+use Rattle.pauli.proofs.Sums.{length-density, room, tested}
 use native.Mathlib.Nat.{mul-le-mul}
 use native.Mathlib.Omega.{arith}
 use borrow.Author.Needs.{needs}
@@ -29,26 +29,20 @@ slice-aggregate-density c = sym (length-take-le _ _ (room _ _ _ (c .before .two-
 density-requires : tie.Need-density-requires
 density-requires c κs = (c .before .before .before .before .pre .0, c .before .two-to .ensures .0, c .before .before .before .before .pre .1, length-take-le _ _ (room _ _ _ (c .before .two-to .ensures .0) (c .before .before .before .before .pre .2)), c .before .before .before .before .pre .3)
 
-slice-reshare-prefix-all-finite : tie.Need-slice-reshare-prefix-all-finite
-slice-reshare-prefix-all-finite c = front-long _ _ _ (densityOf (c .before .before .before .before .before .before .before .args .n) (now (c .before .before .before .before .before .before .before .args .es))) (c .before .before .density .ensures) (length-density _ _ _ (c .before .before .before .before .two-to .ensures .0))
+slice-reshare-prefix-finite-or : tie.Need-slice-reshare-prefix-finite-or
+slice-reshare-prefix-finite-or c = front-long _ _ _ (densityOf (c .before .before .before .before .before .before .before .args .n) (now (c .before .before .before .before .before .before .before .args .es))) (c .before .before .density .ensures) (length-density _ _ _ (c .before .before .before .before .two-to .ensures .0))
 
-slice-aggregate-all-finite : tie.Need-slice-aggregate-all-finite
-slice-aggregate-all-finite c = sym (length-take-le _ _ (front-long _ _ _ (densityOf (c .before .before .before .before .before .before .before .before .args .n) (now (c .before .before .before .before .before .before .before .before .args .es))) (c .before .before .before .density .ensures) (length-density _ _ _ (c .before .before .before .before .before .two-to .ensures .0))))
+slice-aggregate-finite-or : tie.Need-slice-aggregate-finite-or
+slice-aggregate-finite-or c = sym (length-take-le _ _ (front-long _ _ _ (densityOf (c .before .before .before .before .before .before .before .before .args .n) (now (c .before .before .before .before .before .before .before .before .args .es))) (c .before .before .before .density .ensures) (length-density _ _ _ (c .before .before .before .before .before .two-to .ensures .0))))
 
-all-finite-requires : tie.Need-all-finite-requires
-all-finite-requires c κs = search needs
+finite-or-requires : tie.Need-finite-or-requires
+finite-or-requires c κs = search needs
 
 same-length : tie.Need-same-length
 same-length c = search needs
 
 returns : tie.Need-returns
-returns c = (tested-yes _ _ _ _ _ (c .before .before .before .before .before .before .before .two-to .ensures .0) (front-is _ _ _ _ (c .before .before .before .before .before .density .ensures) (length-density _ _ _ (c .before .before .before .before .before .before .before .two-to .ensures .0))) (c .before .all-finite .ensures) (c .if1 .taken), front-over _ _ _ _ (c .before .before .before .before .before .density .ensures) (length-density _ _ _ (c .before .before .before .before .before .before .before .two-to .ensures .0)))
-
-same-length-2 : tie.Need-same-length-2
-same-length-2 c = search needs
-
-returns-2 : tie.Need-returns-2
-returns-2 c = (tested-no _ _ _ _ (front-is _ _ _ _ (c .before .before .before .before .before .density .ensures) (length-density _ _ _ (c .before .before .before .before .before .before .before .two-to .ensures .0))) (c .before .all-finite .ensures) (c .if1 .left), front-over _ _ _ _ (c .before .before .before .before .before .density .ensures) (length-density _ _ _ (c .before .before .before .before .before .before .before .two-to .ensures .0)))
+returns c = (tested _ _ _ _ (front-is _ _ _ _ (c .before .before .before .before .density .ensures) (length-density _ _ _ (c .before .before .before .before .before .before .two-to .ensures .0))) (c .finite-or .ensures), front-over _ _ _ _ (c .before .before .before .before .density .ensures) (length-density _ _ _ (c .before .before .before .before .before .before .two-to .ensures .0)))
 
 pub density-tested-spec : {M : Type 1} → statement M
 density-tested-spec =
@@ -60,10 +54,8 @@ density-tested-spec =
     slice-relend-prefix-density
     slice-aggregate-density
     density-requires
-    slice-reshare-prefix-all-finite
-    slice-aggregate-all-finite
-    all-finite-requires
+    slice-reshare-prefix-finite-or
+    slice-aggregate-finite-or
+    finite-or-requires
     same-length
-    returns
-    same-length-2
-    returns-2)
+    returns)

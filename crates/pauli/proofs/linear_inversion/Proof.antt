@@ -6,7 +6,7 @@ use borrow.Author.Tests.{not-true, not-false}
 use denote.Ref.{now}
 use lib.Ieee.{Float}
 use Rattle.lists.specs.Build.{over}
-use Rattle.pauli.specs.declared.Inverted.the-variants.{Refused}
+use Rattle.refusal.specs.declared.Verdict.the-variants.{Refused}
 use Rattle.pauli.proofs.Admission.{by-tolerance, by-vector, good-finite, some}
 use borrow.Author.Needs.{needs}
 use Rattle.pauli.proofs.linear_inversion.Statement.{statement}

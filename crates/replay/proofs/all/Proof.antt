@@ -5,10 +5,10 @@ use Rattle.replay.proofs.all.Statement.{statement}
 use Rattle.replay.proofs.all.Tie as tie
 
 abbrev Inv-loop : tie.InvT-loop
-Inv-loop fd sheets turns₀ turns = turns ≤ 100000
+Inv-loop fd what turns₀ turns = turns ≤ 100000
 
 abbrev μ-loop : tie.MeasureT-loop
-μ-loop fd sheets turns₀ turns = turns
+μ-loop fd what turns₀ turns = turns
 
 loop-holds : tie.Need-loop-holds Inv-loop μ-loop
 loop-holds c = search needs

@@ -4,7 +4,7 @@ use denote.Ref.{now}
 use borrow.Author.Tests.{not-true, not-false}
 use Rattle.lists.proofs.Choices.{yes, no}
 use Rattle.tomography.specs.Sheet.{sheetOf, readSheet}
-use Rattle.tomography.proofs.Outcomes.{stays, same-outcome}
+use Rattle.outcome.proofs.Outcomes.{stays, same-outcome}
 use borrow.Author.Needs.{needs}
 use Rattle.tomography.proofs.run.Statement.{statement}
 use Rattle.tomography.proofs.run.Tie as tie

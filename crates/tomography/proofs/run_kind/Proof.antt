@@ -1,20 +1,21 @@
 -- `tomography::run_kind` meets its contract. Assumes nothing.
-use mathlib.Core.Path.{refl}
-use native.Mathlib.Omega.{arith}
-use denote.Ref.{now}
-use borrow.Author.Tests.{eq-eqb, ne-eqb}
-use Rattle.lists.proofs.Choices.{yes, no}
-use Rattle.card.proofs.Accepted.{accepted}
 use Rattle.tomography.specs.Sheet.{kindSheet}
-use Rattle.tomography.proofs.Outcomes.{stays, same-outcome}
+use Rattle.outcome.proofs.Outcomes.{stays, same-outcome}
+use Rattle.card.proofs.Accepted.{accepted}
+use Rattle.lists.proofs.Choices.{yes, no}
+use borrow.Author.Tests.{eq-eqb, ne-eqb}
+use denote.Ref.{now}
+use native.Mathlib.Omega.{arith}
+use mathlib.Core.Path.{refl}
 use borrow.Author.Needs.{needs}
 use Rattle.tomography.proofs.run_kind.Statement.{statement}
 use Rattle.tomography.proofs.run_kind.Tie as tie
 
-run-inversion-requires : tie.Need-run-inversion-requires
-run-inversion-requires c κs =
-    let a = accepted (now (c .before .before .before .before .before .before .args .card)) (c .before .before .before .before .before .before .args .h) (c .before .before .before .before .before .before .pre .0) .kind1 (c .before .before .if1 .taken) in
-    (a .few, omega (arith, a .words), c .before .before .before .before .before .before .pre .1, c .before .before .before .before .before .before .pre .2)
+density-sheet-requires : tie.Need-density-sheet-requires
+density-sheet-requires c κs =
+    let s = c .before .before .before .before .before .before in
+    let a = accepted (now (s .args .card)) (s .args .h) (s .pre .0) .kind1 (c .before .before .if1 .taken) in
+    (a .few, omega (arith, a .words), s .pre .1, s .pre .2)
 
 same-length : tie.Need-same-length
 same-length c = search needs
@@ -24,12 +25,57 @@ same-length-2 c = search needs
 
 returns : tie.Need-returns
 unfolding kindSheet
-returns c = same-outcome (yes _ (eq-eqb _ _ (c .before .before .before .before .before .before .before .if1 .taken))) (c .before .before .before .before .run-inversion .ensures)
+returns c = same-outcome (yes _ (eq-eqb _ _ (c .before .before .before .before .before .before .before .if1 .taken))) (c .before .before .before .before .density-sheet .ensures)
+
+process-sheet-requires : tie.Need-process-sheet-requires
+process-sheet-requires c κs =
+    let s = c .before .before .before .before .before .before .before in
+    let a = accepted (now (s .args .card)) (s .args .h) (s .pre .0) .kind3 (c .before .before .if2 .taken) in
+    (a .few, omega (arith, a .words), s .pre .1, s .pre .2)
+
+same-length-3 : tie.Need-same-length-3
+same-length-3 c = search needs
+
+same-length-4 : tie.Need-same-length-4
+same-length-4 c = search needs
 
 returns-2 : tie.Need-returns-2
 unfolding kindSheet
-returns-2 c = stays _ (no _ (ne-eqb _ _ (c .if1 .left)) refl)
+returns-2 c = same-outcome (no _ (ne-eqb _ _ (c .before .before .before .before .before .before .before .before .if1 .left)) (yes _ (eq-eqb _ _ (c .before .before .before .before .before .before .before .if2 .taken)))) (c .before .before .before .before .process-sheet .ensures)
+
+gauge-sheet-requires : tie.Need-gauge-sheet-requires
+gauge-sheet-requires c κs =
+    let s = c .before .before .before .before .before .before .before .before in
+    (accepted (now (s .args .card)) (s .args .h) (s .pre .0) .shaped, c .before .before .if3 .taken, s .pre .1, s .pre .2)
+
+same-length-5 : tie.Need-same-length-5
+same-length-5 c = search needs
+
+same-length-6 : tie.Need-same-length-6
+same-length-6 c = search needs
+
+returns-3 : tie.Need-returns-3
+unfolding kindSheet
+returns-3 c = same-outcome (no _ (ne-eqb _ _ (c .before .before .before .before .before .before .before .before .before .if1 .left)) (no _ (ne-eqb _ _ (c .before .before .before .before .before .before .before .before .if2 .left)) (yes _ (eq-eqb _ _ (c .before .before .before .before .before .before .before .if3 .taken))))) (c .before .before .before .before .gauge-sheet .ensures)
+
+returns-4 : tie.Need-returns-4
+unfolding kindSheet
+returns-4 c = stays _ (no _ (ne-eqb _ _ (c .before .before .if1 .left)) (no _ (ne-eqb _ _ (c .before .if2 .left)) (no _ (ne-eqb _ _ (c .if3 .left)) refl)))
 
 pub run-kind-spec : {M : Type 1} → statement M
 run-kind-spec =
-    tie.close (tie.spec run-inversion-requires same-length same-length-2 returns returns-2)
+    tie.close
+    (tie.spec
+    density-sheet-requires
+    same-length
+    same-length-2
+    returns
+    process-sheet-requires
+    same-length-3
+    same-length-4
+    returns-2
+    gauge-sheet-requires
+    same-length-5
+    same-length-6
+    returns-3
+    returns-4)

@@ -1,7 +1,7 @@
 -- `tomography::sheet` meets its contract. Assumes nothing.
-use mathlib.Core.Path.{_∙_}
+use Rattle.outcome.proofs.Outcomes.{blank-same}
 use denote.Ref.{now}
-use Rattle.tomography.proofs.Outcomes.{blank-same}
+use mathlib.Core.Path.{_∙_}
 use borrow.Author.Needs.{needs}
 use Rattle.tomography.proofs.sheet.Statement.{statement}
 use Rattle.tomography.proofs.sheet.Tie as tie

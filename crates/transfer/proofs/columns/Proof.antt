@@ -1,4 +1,5 @@
 -- `transfer::columns` meets its contract. Assumes nothing.
+use denote.Ref.{now}
 use Prim.Native.Nat.{ℕ, _≤_, _-_, _*_}
 use mathlib.Core.Path.{_≡_, refl, ap}
 use native.Mathlib.Omega.{arith}
@@ -13,10 +14,10 @@ use Rattle.transfer.proofs.columns.Statement.{statement}
 use Rattle.transfer.proofs.columns.Tie as tie
 
 abbrev Inv-loop : tie.InvT-loop
-Inv-loop card from p out₀ c₀ out c = (c ≤ p) × (length out ≡ length out₀) × Filled (columnAt card from p) out₀ (c * p) out
+Inv-loop vectors from p out₀ c₀ out c = (c ≤ p) × (length out ≡ length out₀) × Filled (columnAt vectors from p) out₀ (c * p) out
 
 abbrev μ-loop : tie.MeasureT-loop
-μ-loop card from p out₀ c₀ out c = p - c
+μ-loop vectors from p out₀ c₀ out c = p - c
 
 loop-holds : tie.Need-loop-holds Inv-loop μ-loop
 loop-holds c = (search needs, search needs, rows-none _ _ _)
@@ -49,7 +50,7 @@ loop-less : tie.Need-loop-less Inv-loop μ-loop
 loop-less c = search needs
 
 loop-again : tie.Need-loop-again Inv-loop μ-loop
-loop-again c = (search needs, search needs, rows-more _ _ (c .before .before .before .before .before .loop .c) (c .before .before .before .before .before .before .before .before .args .p) _ (c .before .before .before .before .before .loop .out) _ refl (c .before .before .before .before .before .loop .inv .2) (column-row _ _ _ _ _ (c .before .before .column .ensures)))
+loop-again c = let s = c .before .before .before .before .before .before .before .before in (search needs, search needs, rows-more _ _ (c .before .before .before .before .before .loop .c) (s .args .p) _ (c .before .before .before .before .before .loop .out) _ refl (c .before .before .before .before .before .loop .inv .2) (column-row (now (s .args .vectors)) (s .args .from) (s .args .p) _ _ (c .before .before .column .ensures)))
 
 same-length : tie.Need-same-length Inv-loop μ-loop
 same-length c = search needs

@@ -1,13 +1,14 @@
 -- `transfer::invert_inputs` meets its contract. Assumes nothing.
-use Rattle.transfer.proofs.Vectors.{filled-long, length-filled}
-use mathlib.Core.Path.{sym, ap, _∙_}
-use mathlib.Core.List.{List}
-use native.Mathlib.Omega.{arith}
-use denote.Ref.{now}
-use lib.Ieee.{Float}
-use Rattle.lists.specs.Build.{over}
+use Rattle.transfer.proofs.Vectors.{square-most, length-columns}
+use Rattle.transfer.specs.Process.{inputsOf}
 use Rattle.inversion.specs.Inversion.{invertible, inverseOf}
-use Rattle.transfer.proofs.Vectors.{square-most, filled}
+use Rattle.lists.proofs.Parts.{front-again, front-fits, front-length}
+use Rattle.lists.specs.Build.{over}
+use lib.Ieee.{Float}
+use denote.Ref.{now}
+use native.Mathlib.Omega.{arith}
+use mathlib.Core.List.{List}
+use mathlib.Core.Path.{sym, ap, _∙_}
 use borrow.Author.Needs.{needs}
 use Rattle.transfer.proofs.invert_inputs.Statement.{statement}
 use Rattle.transfer.proofs.invert_inputs.Tie as tie
@@ -22,24 +23,25 @@ slice-aggregate-columns : tie.Need-slice-aggregate-columns
 slice-aggregate-columns c = search needs
 
 columns-requires : tie.Need-columns-requires
-columns-requires c κs = (c .before .before .before .before .before .pre .0, omega arith, omega (arith, square-most (c .before .before .before .before .before .args .p) (c .before .before .before .before .before .pre .0)))
+columns-requires c κs = let s = c .before .before .before .before .before in (s .pre .0, omega arith, omega (arith, square-most (s .args .p) (s .pre .0)))
 
 array-share-prefix-inputs : tie.Need-array-share-prefix-inputs
-array-share-prefix-inputs c = filled-long (now (c .before .before .before .before .before .before .before .args .card)) 2 (c .before .before .before .before .before .before .before .args .p) _ _ _ (c .before .before .before .before .square .ensures .0) (c .before .columns .ensures)
+array-share-prefix-inputs c = let s = c .before .before .before .before .before .before .before in front-fits (inputsOf (now (s .args .vectors)) (s .args .p)) _ (c .before .columns .ensures) (length-columns _ _ _ ∙ sym (c .before .before .before .before .square .ensures .0))
 
 slice-aggregate-invert : tie.Need-slice-aggregate-invert
-slice-aggregate-invert c = c .before .before .before .before .before .square .ensures .0 ∙ sym (length-filled (now (c .before .before .before .before .before .before .before .before .args .card)) 2 (c .before .before .before .before .before .before .before .before .args .p) _ _ _ (c .before .before .before .before .before .square .ensures .0) (c .before .before .columns .ensures))
+slice-aggregate-invert c = let s = c .before .before .before .before .before .before .before .before in sym (front-length (inputsOf (now (s .args .vectors)) (s .args .p)) _ (c .before .before .columns .ensures) (length-columns _ _ _ ∙ sym (c .before .before .before .before .before .square .ensures .0)))
 
 invert-requires : tie.Need-invert-requires
-invert-requires c κs = (c .before .before .before .before .before .before .before .before .before .pre .0, omega (arith, length-filled (now (c .before .before .before .before .before .before .before .before .before .args .card)) 2 (c .before .before .before .before .before .before .before .before .before .args .p) _ _ _ (c .before .before .before .before .before .before .square .ensures .0) (c .before .before .before .columns .ensures)), c .before .before .before .before .before .before .before .before .before .pre .2)
+invert-requires c κs = let s = c .before .before .before .before .before .before .before .before .before in (s .pre .0, omega (arith, front-length (inputsOf (now (s .args .vectors)) (s .args .p)) _ (c .before .before .before .columns .ensures) (length-columns _ _ _ ∙ sym (c .before .before .before .before .before .before .square .ensures .0)), c .before .before .before .before .before .before .square .ensures .0), s .pre .2)
 
 same-length : tie.Need-same-length
 same-length c = search needs
 
 returns : tie.Need-returns
 returns c =
-    let e = filled (now (c .before .before .before .before .before .before .before .before .before .before .before .before .args .card)) 2 (c .before .before .before .before .before .before .before .before .before .before .before .before .args .p) _ _ _ (c .before .before .before .before .before .before .before .before .before .square .ensures .0) (c .before .before .before .before .before .before .columns .ensures) in
-    (c .before .before .invert .ensures .0 ∙ ap (invertible (c .before .before .before .before .before .before .before .before .before .before .before .before .args .p) (c .before .before .before .before .before .before .before .before .before .before .before .before .args .tolerance)) e, c .before .before .invert .ensures .1 ∙ ap (λ (a : List Float). over (inverseOf (c .before .before .before .before .before .before .before .before .before .before .before .before .args .p) (c .before .before .before .before .before .before .before .before .before .before .before .before .args .tolerance) a) (now (c .before .before .before .before .before .before .before .before .before .before .before .before .args .inverse))) e)
+    let s = c .before .before .before .before .before .before .before .before .before .before .before .before in
+    let e = front-again (inputsOf (now (s .args .vectors)) (s .args .p)) _ (c .before .before .before .before .before .before .columns .ensures) (length-columns _ _ _ ∙ sym (c .before .before .before .before .before .before .before .before .before .square .ensures .0)) in
+    (c .before .before .invert .ensures .0 ∙ ap (invertible (s .args .p) (s .args .tolerance)) e, c .before .before .invert .ensures .1 ∙ ap (λ (a : List Float). over (inverseOf (s .args .p) (s .args .tolerance) a) (now (s .args .inverse))) e)
 
 pub invert-inputs-spec : {M : Type 1} → statement M
 invert-inputs-spec =

@@ -5,7 +5,7 @@ use borrow.Author.Tests.{not-true, not-false}
 use denote.Ref.{now}
 use lib.Ieee.{Float}
 use Rattle.lists.specs.Build.{over}
-use Rattle.transfer.specs.declared.Reconstructed.the-variants.{Refused}
+use Rattle.refusal.specs.declared.Verdict.the-variants.{Refused}
 use Rattle.transfer.proofs.Processes.{by-tolerance, by-vectors}
 use borrow.Author.Needs.{needs}
 use Rattle.transfer.proofs.process_linear_inversion.Statement.{statement}

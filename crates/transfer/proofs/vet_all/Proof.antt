@@ -1,4 +1,5 @@
 -- `transfer::vet_all` meets its contract. Assumes nothing.
+use denote.Ref.{now}
 use Prim.Native.Nat.{_≤_, _-_}
 use native.Mathlib.Omega.{arith}
 use Rattle.transfer.proofs.Vectors.{Found, found-none, found-more, found-all}
@@ -7,16 +8,16 @@ use Rattle.transfer.proofs.vet_all.Statement.{statement}
 use Rattle.transfer.proofs.vet_all.Tie as tie
 
 abbrev Inv-loop : tie.InvT-loop
-Inv-loop card tolerance p count found₀ k₀ found k = (k ≤ count) × Found tolerance card p k found
+Inv-loop vectors tolerance p count found₀ k₀ found k = (k ≤ count) × Found tolerance vectors p k found
 
 abbrev μ-loop : tie.MeasureT-loop
-μ-loop card tolerance p count found₀ k₀ found k = count - k
+μ-loop vectors tolerance p count found₀ k₀ found k = count - k
 
 mul-count : tie.Need-mul-count Inv-loop μ-loop
 mul-count c = search needs
 
 loop-holds : tie.Need-loop-holds Inv-loop μ-loop
-loop-holds c = (search needs, found-none _ _ _)
+loop-holds c = let s = c .before in (search needs, found-none (s .args .tolerance) (now (s .args .vectors)) (s .args .p))
 
 vet-vector-requires : tie.Need-vet-vector-requires Inv-loop μ-loop
 vet-vector-requires c κs = search needs
@@ -31,10 +32,10 @@ loop-less : tie.Need-loop-less Inv-loop μ-loop
 loop-less c = search needs
 
 loop-again : tie.Need-loop-again Inv-loop μ-loop
-loop-again c = (search needs, found-more _ _ _ _ _ _ _ (c .before .before .before .loop .inv .1) (c .before .vet-vector .ensures) (c .first-of .ensures))
+loop-again c = let s = c .before .before .before .before .before in (search needs, found-more (s .args .tolerance) (now (s .args .vectors)) (s .args .p) _ _ _ _ (c .before .before .before .loop .inv .1) (c .before .vet-vector .ensures) (c .first-of .ensures))
 
 returns : tie.Need-returns Inv-loop μ-loop
-returns c = found-all _ _ _ _ _ (omega arith) (c .before .loop .inv .1)
+returns c = let s = c .before .before .before in found-all (s .args .tolerance) (now (s .args .vectors)) (s .args .p) _ _ (omega arith) (c .before .loop .inv .1)
 
 pub vet-all-spec : {M : Type 1} → statement M
 vet-all-spec =

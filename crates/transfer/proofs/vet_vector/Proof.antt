@@ -1,52 +1,40 @@
 -- `transfer::vet_vector` meets its contract. Assumes nothing.
-use mathlib.Core.Path.{sym, ap, _∙_}
-use native.Mathlib.Omega.{arith}
-use denote.Ref.{now}
-use lib.ListN.{length}
-use Rattle.numbers.proofs.Slices.{length-numbers}
+use Rattle.lists.proofs.Parts.{part-lent}
+use Rattle.transfer.proofs.Vectors.{vector-fits, square-most}
 use Rattle.pauli.specs.Density.{vetOf}
-use Rattle.transfer.proofs.Vectors.{vector-fits, square-most, loaded}
+use Prim.Native.Nat.{_*_}
+use denote.Ref.{now}
+use mathlib.Core.Path.{refl, ap, _∙_}
+use native.Mathlib.Omega.{arith}
 use borrow.Author.Needs.{needs}
 use Rattle.transfer.proofs.vet_vector.Statement.{statement}
 use Rattle.transfer.proofs.vet_vector.Tie as tie
 
-vector-room-requires : tie.Need-vector-room-requires
-vector-room-requires c κs = search needs
-
 mul-from : tie.Need-mul-from
-mul-from c = omega (arith, vector-fits (c .before .before .args .k) (c .before .before .args .p) (c .before .before .pre .2), square-most (c .before .before .args .p) (c .before .before .pre .1))
+mul-from c = let s = c .before in omega (arith, vector-fits (s .args .k) (s .args .p) (s .pre .2), square-most (s .args .p) (s .pre .1))
 
-add-from : tie.Need-add-from
-add-from c = omega (arith, vector-fits (c .before .before .args .k) (c .before .before .args .p) (c .before .before .pre .2), square-most (c .before .before .args .p) (c .before .before .pre .1))
+add-until : tie.Need-add-until
+add-until c = let s = c .before in omega (arith, vector-fits (s .args .k) (s .args .p) (s .pre .2), square-most (s .args .p) (s .pre .1))
 
-slice-aggregate-load : tie.Need-slice-aggregate-load
-slice-aggregate-load c = search needs
+mul-vet : tie.Need-mul-vet
+mul-vet c = let s = c .before in omega (arith, vector-fits (s .args .k) (s .args .p) (s .pre .2), square-most (s .args .p) (s .pre .1))
 
-load-requires : tie.Need-load-requires
-load-requires c κs = (omega (arith, vector-fits (c .before .before .before .args .k) (c .before .before .before .args .p) (c .before .before .before .pre .2), square-most (c .before .before .before .args .p) (c .before .before .before .pre .1)), search needs)
+sub-vet : tie.Need-sub-vet
+sub-vet c = search needs
 
-array-share-prefix-v : tie.Need-array-share-prefix-v
-array-share-prefix-v c = search needs
+part-vet-start : tie.Need-part-vet-start
+part-vet-start c = search needs
 
-slice-aggregate-vet : tie.Need-slice-aggregate-vet
-slice-aggregate-vet c = sym (ap length (loaded (now (c .before .before .before .before .before .before .args .card)) _ _ _ _ (c .before .before .load .ensures)) ∙ length-numbers _ _ _)
+part-vet-end : tie.Need-part-vet-end
+part-vet-end c = let s = c .before in omega (arith, vector-fits (s .args .k) (s .args .p) (s .pre .2))
 
 vet-requires : tie.Need-vet-requires
-vet-requires c κs = omega (arith, ap length (loaded (now (c .before .before .before .before .before .before .args .card)) _ _ _ _ (c .before .before .load .ensures)) ∙ length-numbers _ _ _)
+vet-requires c κs = search needs
 
 returns : tie.Need-returns
-returns c = c .vet .ensures ∙ ap (vetOf (c .before .before .before .before .before .before .before .args .tolerance)) (loaded (now (c .before .before .before .before .before .before .before .args .card)) _ _ _ _ (c .before .before .before .load .ensures))
+returns c = let s = c .before .before .before in c .vet .ensures ∙ ap (vetOf (s .args .tolerance)) (part-lent (s .args .k * s .args .p) _ (s .args .p) (now (s .args .vectors)) refl)
 
 pub vet-vector-spec : {M : Type 1} → statement M
 vet-vector-spec =
     tie.close
-    (tie.spec
-    vector-room-requires
-    mul-from
-    add-from
-    slice-aggregate-load
-    load-requires
-    array-share-prefix-v
-    slice-aggregate-vet
-    vet-requires
-    returns)
+    (tie.spec mul-from add-until mul-vet sub-vet part-vet-start part-vet-end vet-requires returns)

@@ -1,0 +1,66 @@
+-- `elimination::move_row` meets its contract. Assumes nothing.
+use Prim.Native.Nat.{_+_, _*_}
+use mathlib.Core.Path.{refl}
+use denote.Ref.{now}
+use Rattle.lists.proofs.Parts.{put-back, copied}
+use Rattle.elimination.specs.Rows.{rowOf}
+use borrow.Author.Needs.{needs}
+use Rattle.elimination.proofs.move_row.Statement.{statement}
+use Rattle.elimination.proofs.move_row.Tie as tie
+
+mul-copy-row : tie.Need-mul-copy-row
+mul-copy-row c = search needs
+
+slice-aggregate-copy-row : tie.Need-slice-aggregate-copy-row
+slice-aggregate-copy-row c = search needs
+
+copy-row-requires : tie.Need-copy-row-requires
+copy-row-requires c κs = search needs
+
+mul-start : tie.Need-mul-start
+mul-start c = search needs
+
+add-end : tie.Need-add-end
+add-end c = search needs
+
+mul-put-row : tie.Need-mul-put-row
+mul-put-row c = search needs
+
+sub-put-row : tie.Need-sub-put-row
+sub-put-row c = search needs
+
+part-put-row-start : tie.Need-part-put-row-start
+part-put-row-start c = search needs
+
+part-put-row-end : tie.Need-part-put-row-end
+part-put-row-end c = search needs
+
+slice-aggregate-put-row : tie.Need-slice-aggregate-put-row
+slice-aggregate-put-row c = search needs
+
+put-row-requires : tie.Need-put-row-requires
+put-row-requires c κs = search needs
+
+same-length : tie.Need-same-length
+same-length c = search needs
+
+returns : tie.Need-returns
+returns c = put-back (c .before .before .before .before .before .before .before .before .before .before .args .p * c .before .before .before .before .before .before .before .before .before .before .args .w) (c .before .before .before .before .before .before .before .before .before .before .args .p * c .before .before .before .before .before .before .before .before .before .before .args .w + c .before .before .before .before .before .before .before .before .before .before .args .w) (c .before .before .before .before .before .before .before .before .before .before .args .w) (rowOf (c .before .before .before .before .before .before .before .before .before .before .args .w) (c .before .before .before .before .before .before .before .before .before .before .args .k) (now (c .before .before .before .before .before .before .before .before .before .before .args .work))) _ (now (c .before .before .before .before .before .before .before .before .before .before .args .work)) _ refl (c .before .before .before .before .before .before .before .before .before .before .pre .2) (copied (c .before .before .before .before .before .before .before .before .before .before .args .k * c .before .before .before .before .before .before .before .before .before .before .args .w) (c .before .before .before .before .before .before .before .before .before .before .args .w) (now (c .before .before .before .before .before .before .before .before .before .before .args .work)) _ _ (c .before .before .before .before .before .before .before .before .before .before .pre .1) (c .before .before .before .before .before .before .copy-row .ensures)) (c .before .before .put-row .ensures)
+
+pub move-row-spec : {M : Type 1} → statement M
+move-row-spec =
+    tie.close
+    (tie.spec
+    mul-copy-row
+    slice-aggregate-copy-row
+    copy-row-requires
+    mul-start
+    add-end
+    mul-put-row
+    sub-put-row
+    part-put-row-start
+    part-put-row-end
+    slice-aggregate-put-row
+    put-row-requires
+    same-length
+    returns)

@@ -1,0 +1,42 @@
+-- What a caller may rely on of the library's refusals: one writes no word of the result, and 16 is given in its case and in no other (the laws of `Sound`
+-- in the crate outcome). Assumes nothing.
+use Prim.Native.Nat.{ℕ, _*_, _^_}
+use mathlib.Core.Path.{refl}
+use mathlib.Core.Bool.{_||_}
+use mathlib.Core.List.{List}
+use borrow.Author.Tests.{eqb-false}
+use lib.Dec.{eqb, leb, ltb}
+use lib.Ieee.{Float}
+use Rattle.numbers.specs.Slice.{wordsOf}
+use Rattle.refusal.specs.declared.Refusal.the-variants.{InvalidQubits, InvalidCard}
+use Rattle.matrix.specs.Product.{matVecOf}
+use Rattle.transfer.specs.Apply.{appliedOf}
+use Rattle.designs.specs.Probes.{probesOf}
+use Rattle.designs.specs.Settings.{settingOf}
+use Rattle.outcome.specs.declared.Answer.the-variants.{Probes, Setting, Applied}
+use Rattle.outcome.proofs.Refusals.{Sound, Lower, lower-good, lower-refused, lower-either, lower-first, lower-numbers, shown-sound}
+use Rattle.library.specs.Entries.{qubitsOf, settingVerdict, applyVerdict, probesEntry, settingEntry, applyEntry}
+
+lower-qubits : (most n : ℕ) → Lower (qubitsOf most n)
+unfolding qubitsOf
+lower-qubits most n = lower-either (eqb n 0 || ltb most n) (lower-refused InvalidQubits (eqb-false 1 16 refl)) lower-good
+
+pub probes-sound : (n : ℕ) → Sound (probesEntry n)
+unfolding probesEntry
+probes-sound n = shown-sound (qubitsOf 3 n) (Probes (4 ^ n)) (wordsOf (4 ^ n * 4 ^ n) (probesOf n)) (lower-qubits 3 n) refl
+
+lower-setting : (n index : ℕ) → Lower (settingVerdict n index)
+unfolding settingVerdict
+lower-setting n index = lower-first (lower-qubits 3 n) (lower-either (leb (3 ^ n) index) (lower-refused (InvalidCard index) (eqb-false 15 16 refl)) lower-good)
+
+pub setting-sound : (n index : ℕ) → Sound (settingEntry n index)
+unfolding settingEntry
+setting-sound n index = shown-sound (settingVerdict n index) (Setting n) (settingOf n index) (lower-setting n index) refl
+
+lower-apply : (n : ℕ) (values input : List Float) → Lower (applyVerdict n values input)
+unfolding applyVerdict appliedOf
+lower-apply n values input = lower-first (lower-qubits 2 n) (lower-first (lower-numbers (4 ^ n * 4 ^ n) values) (lower-numbers (4 ^ n) input))
+
+pub apply-sound : (n : ℕ) (values input : List Float) → Sound (applyEntry n values input)
+unfolding applyEntry
+apply-sound n values input = shown-sound (applyVerdict n values input) (Applied (4 ^ n)) (wordsOf (4 ^ n) (matVecOf (4 ^ n) values input)) (lower-apply n values input) refl

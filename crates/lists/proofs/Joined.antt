@@ -1,0 +1,49 @@
+-- Lists joined one after the other, and the loops that write them so. Assumes nothing.
+use mathlib.Core.Path.{_≡_, refl, _∙_, ap}
+use mathlib.Core.List.{List, [], _++_, append-assoc, append-nil}
+use Prim.Native.Nat.{ℕ, zero, suc, _+_, _-_, _*_, _<_}
+use native.Mathlib.Nat.{suc-mul, zero-mul}
+use native.Mathlib.Numerals.{add-one}
+use native.Mathlib.Omega.{arith}
+use lib.ListN.{length, take, drop, length-append, length-drop, drop-of-length-le}
+use lib.Seq.{take-all, take-at, drop-at, drop-drop}
+use Rattle.lists.specs.Build.{over, joined}
+
+module _ {A : Type 0} where
+  -- all of a list from p on, as it is lent, and what is beyond it
+  pub rest-lent : (p e : ℕ) (l : List A) → e ≡ length l → take (e - p) (drop p l) ≡ drop p l
+  rest-lent p e l h = take-all (e - p) (drop p l) (omega (arith, length-drop p l))
+
+  rest-beyond : (p e : ℕ) (l : List A) → e ≡ length l → drop (e - p) (drop p l) ≡ []
+  rest-beyond p e l h = drop-of-length-le (drop p l) {i = e - p} (omega (arith, length-drop p l))
+
+  -- a was written over the front of l; the rest, `p..`, was lent, and x was written over its front
+  pub over-onto : (a x l : List A) (p e : ℕ) (out ys : List A) → length a ≡ p → e ≡ length out → out ≡ over a l → ys ≡ over x (take (e - p) (drop p out))
+      → take p out ++ (ys ++ drop (e - p) (drop p out)) ≡ over (a ++ x) l
+  over-onto a x l p e out ys k h o y =
+      rw (rest-beyond p e out h, append-nil, y, rest-lent p e out h, o, take-at a (drop (length a) l) p k, drop-at a (drop (length a) l) p k, drop-drop, length-append, append-assoc)
+
+  -- lists of w entries each
+  pub length-joined : (n w : ℕ) (f : ℕ → List A) → ((i : ℕ) → i < n → length (f i) ≡ w) → length (joined n f) ≡ n * w
+  unfolding joined
+  length-joined zero w f h = rw zero-mul
+  length-joined (suc n) w f h =
+      let a : length (joined n f) ≡ n * w = length-joined n w f (λ i l. h i (omega arith)) in
+      let b : length (f n) ≡ w = h n (omega arith) in
+      omega (arith, length-append (joined n f) (f n), suc-mul n w)
+
+  -- a loop that writes them: what stands in l after i turns
+  abbrev pub Written : (ℕ → List A) → List A → ℕ → List A → Type 0
+  Written f l i out = out ≡ over (joined i f) l
+
+  pub written-none : (f : ℕ → List A) (l : List A) → Written f l 0 l
+  unfolding joined
+  written-none f l = refl
+
+  pub written-more : (f : ℕ → List A) (l : List A) (i p e : ℕ) (out x ys : List A) → length (joined i f) ≡ p → e ≡ length out → Written f l i out → x ≡ f i → ys ≡ over x (take (e - p) (drop p out))
+      → Written f l (i + 1) (take p out ++ (ys ++ drop (e - p) (drop p out)))
+  unfolding joined
+  written-more f l i p e out x ys k h o g y = over-onto (joined i f) x l p e out ys k h o y ∙ rw (add-one, g)
+
+  pub written-end : (f : ℕ → List A) (l : List A) (i n : ℕ) (out : List A) → i ≡ n → Written f l i out → Written f l n out
+  written-end f l i n out h o = rw (← h) o

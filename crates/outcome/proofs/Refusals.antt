@@ -1,0 +1,107 @@
+-- What the promise says of refusals: one writes no word of the result, and 16 is given in its case and in no other. Assumes nothing.
+use Prim.Native.Nat.{ℕ}
+use mathlib.Core.Path.{_≡_, refl, sym, ap, _∙_}
+use mathlib.Core.Bool.{Bool, true, false, cond}
+use mathlib.Core.List.{List, []}
+use borrow.Author.Tests.{eqb-false}
+use lib.Dec.{eqb}
+use lib.ListN.{length}
+use lib.Ieee.{Float}
+use Rattle.lists.specs.Build.{over}
+use Rattle.numbers.specs.Slice.{allFinite, blank}
+use Rattle.refusal.specs.declared.Refusal.{Refusal}
+use Rattle.refusal.specs.declared.Refusal.the-variants.{Shape, NonFinite, ShortBuffer}
+use Rattle.refusal.specs.declared.Verdict.{Verdict}
+use Rattle.refusal.specs.declared.Verdict.the-variants as verdict
+use Rattle.refusal.specs.Values.{codeOf}
+use Rattle.refusal.specs.Verdicts.{firstOf, finiteOr, checkedNumbers}
+use Rattle.refusal.proofs.Verdicts.{never-good}
+use Rattle.booleans.proofs.Joined.{clash}
+use Rattle.outcome.specs.declared.Answer.{Answer}
+use Rattle.outcome.specs.declared.Answer.the-variants.{Density, Process, Model, Probes, Setting, Applied, Refused}
+use Rattle.outcome.specs.Outcome.{Outcome, refused, shown, Gives, roomy, inRoom, Call}
+
+-- an outcome that writes nothing where it is refused, and that is not refusal 16
+pub record Sound (o : Outcome) : Type 0 where
+  pub silent : (r : Refusal) → o .answer ≡ Refused r → o .words ≡ []
+  pub long : o .answer ≡ Refused ShortBuffer → ⊥
+
+-- refusals are told apart from other answers, and by their numbers from one another
+abbrev pub isRefused : Answer → Bool
+isRefused (Density d) = false
+isRefused (Process p) = false
+isRefused (Model w) = false
+isRefused (Probes c) = false
+isRefused (Setting n) = false
+isRefused (Applied p) = false
+isRefused (Refused r) = true
+
+same-refusal : {r q : Refusal} → Refused r ≡ Refused q → codeOf r ≡ codeOf q
+same-refusal {r} {q} e = let f : r ≡ q = cc in ap codeOf f
+
+-- a verdict that is not refusal 16
+pub record Lower (v : Verdict) : Type 0 where
+  pub low : (r : Refusal) → v ≡ verdict.Refused r → codeOf r ≡ 16 → ⊥
+
+pub lower-good : Lower verdict.Good
+lower-good = record { low = λ r e. absurd (never-good e) }
+
+pub lower-refused : (r : Refusal) → (codeOf r ≡ 16 → ⊥) → Lower (verdict.Refused r)
+lower-refused r h = record { low = λ q e z. h (same r q e ∙ z) }
+  where
+    same : (r q : Refusal) → verdict.Refused r ≡ verdict.Refused q → codeOf r ≡ codeOf q
+    same r q e = let f : r ≡ q = cc in ap codeOf f
+
+pub lower-either : (b : Bool) {x y : Verdict} → Lower x → Lower y → Lower (cond b x y)
+lower-either true p q = p
+lower-either false p q = q
+
+pub lower-first : {x y : Verdict} → Lower x → Lower y → Lower (firstOf x y)
+lower-first {x = verdict.Good} p q = q
+lower-first {x = verdict.Refused r} p q = p
+
+pub lower-finite : (r : Refusal) (xs : List Float) → (codeOf r ≡ 16 → ⊥) → Lower (finiteOr r xs)
+unfolding finiteOr
+lower-finite r xs h = lower-either (allFinite xs) lower-good (lower-refused r h)
+
+pub lower-numbers : (wanted : ℕ) (xs : List Float) → Lower (checkedNumbers wanted xs)
+unfolding checkedNumbers
+lower-numbers wanted xs = lower-either (eqb (length xs) wanted) (lower-finite NonFinite xs (eqb-false 3 16 refl)) (lower-refused (Shape wanted (length xs)) (eqb-false 2 16 refl))
+
+-- ---- outcomes
+
+pub other : (r : Refusal) → (codeOf r ≡ 16 → ⊥) → Sound (refused r)
+other r h = record { silent = λ _ _. refl; long = λ e. h (same-refusal e) }
+
+pub either : (b : Bool) {x y : Outcome} → Sound x → Sound y → Sound (cond b x y)
+either true p q = p
+either false p q = q
+
+pub shown-sound : (v : Verdict) (a : Answer) (words : List ℕ) → Lower v → isRefused a ≡ false → Sound (shown v a words)
+shown-sound verdict.Good a words l z = record { silent = λ r e. clash (isRefused a) (ap isRefused e) z; long = λ e. clash (isRefused a) (ap isRefused e) z }
+shown-sound (verdict.Refused r) a words l z = other r (l .low r refl)
+
+-- ---- what a caller of an entry point may rely on
+
+module _ {o : Outcome} (sound : Sound o) {result₀ result₁ : List ℕ} {work₀ work₁ : List Float} where
+  -- a refusal writes no word of the result
+  pub refusal-writes-nothing : {r : Refusal} → Call o result₀ result₁ work₀ work₁ (Refused r) → result₁ ≡ result₀
+  unfolding inRoom
+  refusal-writes-nothing {r} s = s .gives .written ∙ go (roomy result₀ work₀) (s .gives .answer)
+    where
+      go : (b : Bool) → Refused r ≡ cond b o (refused ShortBuffer) .answer → over (cond b o (refused ShortBuffer) .words) result₀ ≡ result₀
+      go true e = ap (λ (w : List ℕ). over w result₀) (sound .silent r (sym e))
+      go false e = refl
+
+  -- the work slice is left all zero, whatever the outcome
+  pub work-cleared : {r : Answer} → Call o result₀ result₁ work₀ work₁ r → work₁ ≡ blank work₀
+  work-cleared s = s .blanked
+
+  -- 16 in its case and in no other
+  pub short-case : Call o result₀ result₁ work₀ work₁ (Refused ShortBuffer) → roomy result₀ work₀ ≡ false
+  unfolding inRoom
+  short-case s = go (roomy result₀ work₀) refl (s .gives .answer)
+    where
+      go : (b : Bool) → roomy result₀ work₀ ≡ b → Refused ShortBuffer ≡ cond b o (refused ShortBuffer) .answer → roomy result₀ work₀ ≡ false
+      go true k e = absurd (sound .long (sym e))
+      go false k e = k

@@ -1,0 +1,60 @@
+-- `sheets::process_sheet` meets its contract. Assumes nothing.
+use Rattle.sheets.proofs.Shown.{four-some, four-most, process-refused, process-shown}
+use Rattle.outcome.proofs.Outcomes.{stays}
+use lib.ListN.{length}
+use denote.Ref.{now}
+use native.Mathlib.Omega.{arith}
+use Prim.Native.Nat.{ℕ, _+_, _*_, _^_, _≤_}
+use mathlib.Core.Path.{_≡_, sym}
+use borrow.Author.Needs.{needs}
+use Rattle.sheets.proofs.process_sheet.Statement.{statement}
+use Rattle.sheets.proofs.process_sheet.Tie as tie
+
+four-to-requires : tie.Need-four-to-requires
+four-to-requires c κs = search needs
+
+invert-process-requires : tie.Need-invert-process-requires
+invert-process-requires c κs = let s = c .before .before .before .before .before in let k = c .before .four-to .ensures .0 in (omega (arith, four-some (s .args .n), k), omega (arith, four-most (s .args .n) (s .pre .0), k), rw k (s .pre .1), s .pre .3)
+
+enum-known-found : tie.Need-enum-known-found
+enum-known-found c = search needs
+
+enum-told : tie.Need-enum-told
+enum-told c = search needs
+
+square-requires : tie.Need-square-requires
+square-requires c κs = search needs
+
+emit-requires : tie.Need-emit-requires
+emit-requires c κs = search needs
+
+same-length : tie.Need-same-length
+same-length c = search needs
+
+returns : tie.Need-returns
+returns c = let s = c .before .before .before .before .before .before .before .before .before .before .before in stays (now (s .args .result)) (process-refused _ (s .args .n) _ (c .before .before .before .before .before .before .before .four-to .ensures .0) _ (c .before .before .before .before .before .invert-process .ensures .0) _ (c .before .found .given .1))
+
+same-length-2 : tie.Need-same-length-2
+same-length-2 c = search needs
+
+same-length-3 : tie.Need-same-length-3
+same-length-3 c = search needs
+
+returns-2 : tie.Need-returns-2
+returns-2 c = let s = c .before .before .before .before .before .before .before .before .before .before .before .before .before .before .before .before in process-shown _ (s .args .n) _ (c .before .before .before .before .before .before .before .before .before .before .before .before .four-to .ensures .0) _ (c .before .before .before .before .before .before .before .before .before .before .invert-process .ensures .0) _ _ _ _ _ (c .before .before .before .before .before .before .enum-told .given .1) (c .before .before .before .before .square .ensures .0) (c .before .before .before .before .before .before .before .before .before .before .invert-process .ensures .1) (c .before .before .emit .ensures)
+
+pub process-sheet-spec : {M : Type 1} → statement M
+process-sheet-spec =
+    tie.close
+    (tie.spec
+    four-to-requires
+    invert-process-requires
+    enum-known-found
+    enum-told
+    square-requires
+    emit-requires
+    same-length
+    returns
+    same-length-2
+    same-length-3
+    returns-2)

@@ -1,0 +1,136 @@
+//! What happened in a card's run or in a call, so that a comparison can show that it met each case.
+
+use crate::card::{self, Job, Model, Refusal};
+use crate::hooks::Pivot;
+use crate::library::Call;
+use crate::sheet::Outcome;
+
+/// Cases by name.
+pub type Cases = Vec<&'static str>;
+
+fn refused_as(outcome: &Outcome, number: u64) -> bool {
+    matches!(outcome, Outcome::Refused(Refusal { n, .. }) if *n == number)
+}
+
+fn any_bad(values: &[f64]) -> bool {
+    values.iter().any(|x| !x.is_finite())
+}
+
+/// How many floats `size` is above `threshold`; both are at least 0.
+fn steps_above(size: f64, threshold: f64) -> i64 {
+    size.to_bits() as i64 - threshold.to_bits() as i64
+}
+
+/// Of the inversion. The last pivot is the one at which it stopped.
+fn of_pivots(cases: &mut Cases, outcome: &Outcome, pivots: &[Pivot]) {
+    let mut put = |case, met| {
+        if met {
+            cases.push(case);
+        }
+    };
+    let any = |met: fn(&Pivot) -> bool| pivots.iter().any(met);
+    let accepted = matches!(outcome, Outcome::Accepted { .. });
+    put("a tie of pivots", any(|p| p.tie));
+    put("a tie of pivots after the first column", pivots.iter().skip(1).any(|p| p.tie));
+    put("rows exchanged", any(|p| p.moved));
+    put("no row exchanged, accepted", accepted && !any(|p| p.moved));
+    put("a pivot at the threshold", any(|p| p.size == p.threshold));
+    put("a pivot one float above the threshold", any(|p| steps_above(p.size, p.threshold) == 1));
+    put("a pivot one float below the threshold", any(|p| steps_above(p.size, p.threshold) == -1));
+    put("a pivot up to twice the threshold, accepted", accepted && any(|p| p.size < 2.0 * p.threshold));
+    put("a pivot from half the threshold on, refused", any(|p| 0.5 * p.threshold <= p.size && p.size <= p.threshold));
+    put("a pivot of zero", any(|p| p.size == 0.0));
+    put("a threshold that rounds to zero", any(|p| p.threshold == 0.0));
+    put("an infinite pivot", any(|p| p.size == f64::INFINITY));
+    put("an infinite pivot, accepted", accepted && any(|p| p.size == f64::INFINITY));
+    put("a NaN as pivot", any(|p| p.size.is_nan()));
+    put("a NaN as pivot, the others too small", any(|p| p.size.is_nan() && p.next <= p.threshold));
+    put("NaNs tie as pivots", any(|p| p.size.is_nan() && p.tie));
+    put("infinities tie as pivots", any(|p| p.size == f64::INFINITY && p.tie));
+    put("not finite in between, accepted", accepted && any(|p| !p.finite));
+    put("not finite in between, refused as singular", !accepted && !refused_as(outcome, 3) && any(|p| !p.finite));
+    put("refused 3 after the inversion", refused_as(outcome, 3) && !pivots.is_empty());
+    put("refused 3 after a finite inversion", refused_as(outcome, 3) && !pivots.is_empty() && !any(|p| !p.finite));
+}
+
+/// Of the model; its names.
+fn of_model(cases: &mut Cases, model: &Model) -> Vec<u64> {
+    let mut put = |case, met| {
+        if met {
+            cases.push(case);
+        }
+    };
+    let names: Vec<u64> = model.gates.iter().map(|&(name, _)| name).collect();
+    put("d 0", model.d == 0);
+    put("no effects", model.effects.is_empty());
+    put("no gates", names.is_empty());
+    put("8 gates", names.len() == 8);
+    put("d 16", model.d == 16);
+    put("a name of zero", names.contains(&0));
+    put("a repeated name", (0..names.len()).any(|k| names[..k].contains(&names[k])));
+    put("not finite in the state", any_bad(&model.state));
+    put("not finite in an effect", model.effects.iter().any(|effect| any_bad(effect)));
+    put("not finite in a gate", model.gates.iter().any(|(_, gate)| any_bad(gate)));
+    names
+}
+
+/// Of the result's numbers; names are none.
+fn of_words(cases: &mut Cases, outcome: &Outcome, names: &[u64]) {
+    if let Outcome::Accepted { words, .. } = outcome {
+        let mut put = |case, met: &dyn Fn(f64) -> bool| {
+            if words.iter().any(|word| met(f64::from_bits(*word)) && !names.contains(word)) {
+                cases.push(case);
+            }
+        };
+        put("-0 in the result", &|x| x == 0.0 && x.is_sign_negative());
+        put("a subnormal in the result", &f64::is_subnormal);
+        put("an infinity in the result", &f64::is_infinite);
+        put("a NaN in the result", &f64::is_nan);
+    }
+}
+
+/// Of a card of kind 3 or 6; others have none.
+pub fn of_card(bytes: &[u8], outcome: &Outcome, pivots: &[Pivot]) -> Cases {
+    let mut cases = Vec::new();
+    match card::read(bytes) {
+        Ok(Job::Process { inputs, outputs, .. }) => {
+            of_pivots(&mut cases, outcome, pivots);
+            of_words(&mut cases, outcome, &[]);
+            for (vectors, bad) in [(inputs, "not finite in an input"), (outputs, "not finite in an output")] {
+                if vectors.iter().any(|vector| any_bad(vector)) {
+                    cases.push(bad);
+                }
+            }
+        }
+        Ok(Job::Gauge { model, transform }) => {
+            of_pivots(&mut cases, outcome, pivots);
+            let names = of_model(&mut cases, &model);
+            of_words(&mut cases, outcome, &names);
+            if any_bad(&transform) {
+                cases.push("not finite in the transform");
+            }
+            if refused_as(outcome, 10) && pivots.is_empty() {
+                cases.push("a transform of zeros");
+            }
+        }
+        _ => {}
+    }
+    cases
+}
+
+/// Of a library call.
+pub fn of_call(call: &Call, outcome: &Outcome) -> Cases {
+    let mut cases = Vec::new();
+    if !matches!(call, Call::Setting { .. }) {
+        of_words(&mut cases, outcome, &[]);
+    }
+    if let Call::Apply { values, input, .. } = call {
+        if refused_as(outcome, 2) && (any_bad(values) || any_bad(input)) {
+            cases.push("a wrong length beside numbers that are not finite");
+        }
+        if refused_as(outcome, 3) {
+            cases.push(if any_bad(values) { "not finite in the values" } else { "not finite in the input" });
+        }
+    }
+    cases
+}
