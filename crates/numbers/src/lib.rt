@@ -15,19 +15,12 @@ fn byte(card: &[u8], i: usize) -> u64
     card[i] as u64
 }
 
-// Two bytes, the highest first. Shifts and ors, which the compiler makes one load.
-fn pair_at(card: &[u8], b: usize) -> u64
-    requires { ⌜ b + 2 ≤ length (now card) ⌝ }
-    ensures { λ r. ⌜ (r ≡ getD (now (card .entry)) b 0 * 256 + getD (now (card .entry)) (b + 1) 0) × (r < 65536) ⌝ }
-{
-    (byte(card, b) << 8) | byte(card, b + 1)
-}
-
+// Four bytes, the highest first. Of two halves by shifts and ors the compiler makes one load with its bytes reversed.
 fn half_at(card: &[u8], b: usize) -> u64
     requires { ⌜ b + 4 ≤ length (now card) ⌝ }
     ensures { λ r. ⌜ (r ≡ ((getD (now (card .entry)) b 0 * 256 + getD (now (card .entry)) (b + 1) 0) * 256 + getD (now (card .entry)) (b + 2) 0) * 256 + getD (now (card .entry)) (b + 3) 0) × (r < 4294967296) ⌝ }
 {
-    (pair_at(card, b) << 16) | pair_at(card, b + 2)
+    (byte(card, b) << 24) | (byte(card, b + 1) << 16) | (byte(card, b + 2) << 8) | byte(card, b + 3)
 }
 
 // Word number `place` of the card.

@@ -59,7 +59,7 @@ module _ (n code row column q : ℕ) (h : column < 2 ^ n) where
   part-is = ap (λ (z : Gaussian). ofInt binary64 (partOf q z)) (entry-is n code row column h)
 
   -- the part that is filled
-  filled-part : column ≡ filledColumn n code row → q ≡ filledPower n code row % 2 → stringPart n code q row column ≡ unitOf (filledPower n code row)
+  pub filled-part : column ≡ filledColumn n code row → q ≡ filledPower n code row % 2 → stringPart n code q row column ≡ unitOf (filledPower n code row)
   filled-part e f =
       part-is
       ∙ ap (λ (z : Gaussian). ofInt binary64 (partOf q z)) (ap (λ (b : Bool). cond b (powerOfI (filledPower n code row)) none) (eq-eqb column (filledColumn n code row) e))
@@ -67,7 +67,7 @@ module _ (n code row column q : ℕ) (h : column < 2 ^ n) where
       ∙ unit-part (filledPower n code row) (power-small n code row)
 
   -- every other part of the row
-  empty-part : q < 2 → (column ≡ filledColumn n code row → q ≡ filledPower n code row % 2 → ⊥) → stringPart n code q row column ≡ zeroF
+  pub empty-part : q < 2 → (column ≡ filledColumn n code row → q ≡ filledPower n code row % 2 → ⊥) → stringPart n code q row column ≡ zeroF
   empty-part l e = part-is ∙ go (eqb column (filledColumn n code row)) refl ∙ zero-number
     where
       go : (b : Bool) → eqb column (filledColumn n code row) ≡ b → ofInt binary64 (partOf q (cond b (powerOfI (filledPower n code row)) none)) ≡ ofInt binary64 (pos 0)
@@ -257,7 +257,7 @@ pub size-in : (n d : ℕ) (out : List Float) → d ≡ 2 ^ n → length out ≡ 
 size-in n d out e h = subst (λ (x : ℕ). length out ≡ 2 * (x * x)) (sym e) h
 
 -- a weight is finite
-power-number : (n : ℕ) → n < 4 → ofInt binary64 (pos (2 ^ n)) ≡ fin false 1 (pos n)
+pub power-number : (n : ℕ) → n < 4 → ofInt binary64 (pos (2 ^ n)) ≡ fin false 1 (pos n)
 unfolding ofInt round units odd size span climb
 power-number = below-four (λ n. ofInt binary64 (pos (2 ^ n)) ≡ fin false 1 (pos n)) refl refl refl refl
 

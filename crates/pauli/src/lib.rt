@@ -15,9 +15,9 @@ ghost use Rattle.pauli.specs.Entry.{flipped, turned, filledColumn, fille
 ghost use Rattle.pauli.specs.Density.{weight, withString, densityOf, testedOf, vetOf, invertedOf, computedOf};
 
 // The one entry of a string's row that is not zero: its column, and the power of i, 0 to 3, that it is.
-struct Filled {
-    column: usize,
-    power: usize,
+pub struct Filled {
+    pub column: usize,
+    pub power: usize,
 }
 
 fn flipped(axis: usize, x: usize) -> usize
@@ -47,7 +47,7 @@ fn turned(axis: usize, x: usize) -> usize
 }
 
 // Digit by digit from the lowest, which is the last axis.
-fn filled_of(n: usize, code: usize, row: usize) -> Filled
+pub fn filled_of(n: usize, code: usize, row: usize) -> Filled
     requires { ⌜ n ≤ 3 ⌝ }
     ensures { λ r. ⌜ (r .column ≡ filledColumn n code row) × (r .power ≡ filledPower n code row) × (r .column < 2 ^ n) × (r .power < 4) ⌝ }
 {
@@ -70,7 +70,7 @@ fn filled_of(n: usize, code: usize, row: usize) -> Filled
     Filled { column, power }
 }
 
-fn unit_of(power: usize) -> f64
+pub fn unit_of(power: usize) -> f64
     ensures { λ r. ⌜ r ≡ unitOf power ⌝ }
 {
     if power < 2 {

@@ -1,0 +1,7 @@
+pub mod Noughts
+pub mod Places
+pub mod Products
+pub mod Scatter
+pub mod Steps
+pub mod Sums
+pub mod Terms

@@ -1,0 +1,2 @@
+pub mod Choi
+pub mod Sparse

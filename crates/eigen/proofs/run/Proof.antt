@@ -1,0 +1,100 @@
+-- `eigen::run` meets its contract. Assumes nothing.
+use Prim.Native.Nat.{_*_}
+use mathlib.Core.Path.{_≡_, _∙_, refl}
+use native.Mathlib.Omega.{arith}
+use lib.ListN.{length}
+use Rattle.entries.specs.Entries.{entries}
+use Rattle.magnitudes.specs.Notes.{notes, Kept}
+use Rattle.magnitudes.proofs.Keeping.{search-finds, scale-measured}
+use Rattle.eigen.specs.Jacobi.{jacobi, ran}
+use Rattle.eigen.proofs.Running.{run-none, run-done, run-more, kept-step, found-within, kept-measured, by-scale}
+use borrow.Author.Needs.{needs}
+use Rattle.eigen.proofs.run.Statement.{statement}
+use Rattle.eigen.proofs.run.Tie as tie
+
+abbrev Inv-loop : tie.InvT-loop
+Inv-loop a₀ v₀ r n tolerance rotations bounds₀ sizes₀ limit left₀ a v bounds sizes left = (length a ≡ 2 * (n * n)) × (length v ≡ 2 * (r * n)) × (length bounds ≡ n * n) × (length sizes ≡ n * n) × Kept n (entries a) (notes bounds sizes) × (jacobi left r n limit (entries a) (entries v) ≡ jacobi rotations r n limit (entries a₀) (entries v₀))
+
+abbrev μ-loop : tie.MeasureT-loop
+μ-loop a₀ v₀ r n tolerance rotations bounds₀ sizes₀ limit left₀ a v bounds sizes left = left
+
+measure-requires : tie.Need-measure-requires Inv-loop μ-loop
+measure-requires c κs = search needs
+
+scale-requires : tie.Need-scale-requires Inv-loop μ-loop
+scale-requires c κs = search needs
+
+loop-holds : tie.Need-loop-holds Inv-loop μ-loop
+loop-holds c = (search needs, search needs, search needs, search needs, kept-measured _ _ _ (c .before .before .before .before .before .before .measure .ensures), refl)
+
+find-requires : tie.Need-find-requires Inv-loop μ-loop
+find-requires c κs = search needs
+
+same-length : tie.Need-same-length Inv-loop μ-loop
+same-length c = search needs
+
+same-length-2 : tie.Need-same-length-2 Inv-loop μ-loop
+same-length-2 c = search needs
+
+same-length-3 : tie.Need-same-length-3 Inv-loop μ-loop
+same-length-3 c = search needs
+
+same-length-4 : tie.Need-same-length-4 Inv-loop μ-loop
+same-length-4 c = search needs
+
+returns : tie.Need-returns Inv-loop μ-loop
+unfolding ran
+returns c = let h = search-finds _ _ _ _ _ _ (c .before .before .before .before .before .before .before .before .before .before .before .loop .inv .2, c .before .before .before .before .before .before .before .before .before .before .before .loop .inv .3) (c .before .before .before .before .before .before .before .before .before .before .before .loop .inv .4) (c .before .before .before .before .before .before .find .ensures) in by-scale _ _ _ _ _ _ _ _ (c .before .before .before .before .before .before .before .before .before .before .before .before .scale .ensures ∙ scale-measured _ _ _ _ (search needs) (c .before .before .before .before .before .before .before .before .before .before .before .before .before .before .before .before .before .before .measure .ensures)) (run-done _ _ _ _ _ _ _ (c .before .before .before .before .before .before .before .before .before .before .loop-test .taken) (h .0) (c .if1 .taken) ∙ c .before .before .before .before .before .before .before .before .before .before .before .loop .inv .5)
+
+step-requires : tie.Need-step-requires Inv-loop μ-loop
+step-requires c κs = let h = search-finds _ _ _ _ _ _ (c .before .before .before .before .before .before .before .before .before .before .before .before .before .before .before .loop .inv .2, c .before .before .before .before .before .before .before .before .before .before .before .before .before .before .before .loop .inv .3) (c .before .before .before .before .before .before .before .before .before .before .before .before .before .before .before .loop .inv .4) (c .before .before .before .before .before .before .before .before .before .before .find .ensures) in let w = found-within _ _ _ (c .before .before .before .before .before .before .before .before .before .before .before .before .before .before .before .before .before .before .before .before .before .before .before .before .before .before .before .before .before .before .pre .4) (h .0) in (search needs, search needs, search needs, search needs, w .0, w .1)
+
+sub-left : tie.Need-sub-left Inv-loop μ-loop
+sub-left c = search needs
+
+loop-less : tie.Need-loop-less Inv-loop μ-loop
+loop-less c = search needs
+
+loop-again : tie.Need-loop-again Inv-loop μ-loop
+loop-again c = let h = search-finds _ _ _ _ _ _ (c .before .before .before .before .before .before .before .before .before .before .before .before .before .before .before .before .before .before .before .before .before .before .before .before .loop .inv .2, c .before .before .before .before .before .before .before .before .before .before .before .before .before .before .before .before .before .before .before .before .before .before .before .before .loop .inv .3) (c .before .before .before .before .before .before .before .before .before .before .before .before .before .before .before .before .before .before .before .before .before .before .before .before .loop .inv .4) (c .before .before .before .before .before .before .before .before .before .before .before .before .before .before .before .before .before .before .before .find .ensures) in let w = found-within _ _ _ (c .before .before .before .before .before .before .before .before .before .before .before .before .before .before .before .before .before .before .before .before .before .before .before .before .before .before .before .before .before .before .before .before .before .before .before .before .before .before .before .pre .4) (h .0) in (search needs, search needs, search needs, search needs, kept-step _ _ _ _ _ _ _ _ _ (w .0) (w .1) (search needs, search needs) (h .1) (c .before .before .before .before .before .before .before .before .step .ensures), run-more _ _ _ _ _ _ _ _ _ _ _ (c .before .before .before .before .before .before .before .before .before .before .before .before .before .before .before .before .before .before .before .before .before .before .before .loop-test .taken) (h .0) (c .before .before .before .before .before .before .before .before .before .before .before .before .before .if1 .left) (c .before .before .before .before .before .before .before .before .step .ensures) ∙ c .before .before .before .before .before .before .before .before .before .before .before .before .before .before .before .before .before .before .before .before .before .before .before .before .loop .inv .5)
+
+same-length-5 : tie.Need-same-length-5 Inv-loop μ-loop
+same-length-5 c = search needs
+
+same-length-6 : tie.Need-same-length-6 Inv-loop μ-loop
+same-length-6 c = search needs
+
+same-length-7 : tie.Need-same-length-7 Inv-loop μ-loop
+same-length-7 c = search needs
+
+same-length-8 : tie.Need-same-length-8 Inv-loop μ-loop
+same-length-8 c = search needs
+
+returns-2 : tie.Need-returns-2 Inv-loop μ-loop
+unfolding ran
+returns-2 c = by-scale _ _ _ _ _ _ _ _ (c .before .before .scale .ensures ∙ scale-measured _ _ _ _ (search needs) (c .before .before .before .before .before .before .before .before .measure .ensures)) (run-none _ _ _ _ _ _ (omega arith) ∙ c .before .loop .inv .5)
+
+pub run-spec : {M : Type 1} → statement M
+run-spec =
+    tie.close
+    (tie.spec
+    Inv-loop
+    μ-loop
+    measure-requires
+    scale-requires
+    loop-holds
+    find-requires
+    same-length
+    same-length-2
+    same-length-3
+    same-length-4
+    returns
+    step-requires
+    sub-left
+    loop-less
+    loop-again
+    same-length-5
+    same-length-6
+    same-length-7
+    same-length-8
+    returns-2)

@@ -1,0 +1,14 @@
+-- A matrix laid entry by entry, row by row.
+use mathlib.Core.List.{List}
+use Prim.Native.Nat.{ℕ, _+_, _*_}
+use lib.ListN.{set}
+use Rattle.lists.specs.Fold.{fold}
+use Rattle.complex.specs.declared.Complex.{Complex}
+
+-- entry (i, j) is f i j
+abbrev pub laid : ℕ → (ℕ → ℕ → Complex) → ℕ → ℕ → List Complex → List Complex
+laid n f i j e = set e (i * n + j) (f i j)
+
+-- row i
+unfoldable pub laidRow : ℕ → (ℕ → ℕ → Complex) → ℕ → List Complex → List Complex
+laidRow n f i e = fold n (laid n f i) e

@@ -1,0 +1,41 @@
+-- `turns::turn_of` meets its contract. Assumes nothing.
+use native.Mathlib.Omega.{arith}
+use Rattle.lists.proofs.Parts.{entry-fits}
+use Rattle.turns.specs.Rotation.{turnOf}
+use borrow.Author.Needs.{needs}
+use Rattle.turns.proofs.turn_of.Statement.{statement}
+use Rattle.turns.proofs.turn_of.Tie as tie
+
+read-requires : tie.Need-read-requires
+read-requires c κs = omega (arith, entry-fits (c .before .args .g .p) (c .before .args .g .p) (c .before .args .n) (c .before .args .n) (c .before .pre .1) (c .before .pre .1))
+
+read-requires-2 : tie.Need-read-requires-2
+read-requires-2 c κs = omega (arith, entry-fits (c .before .before .args .g .q) (c .before .before .args .g .q) (c .before .before .args .n) (c .before .before .args .n) (c .before .before .pre .2) (c .before .before .pre .2))
+
+tangent-requires : tie.Need-tangent-requires
+tangent-requires c κs = search needs
+
+sqrt-requires : tie.Need-sqrt-requires
+sqrt-requires c κs = search needs
+
+read-requires-3 : tie.Need-read-requires-3
+read-requires-3 c κs = omega (arith, entry-fits (c .before .before .before .before .before .args .g .p) (c .before .before .before .before .before .args .g .q) (c .before .before .before .before .before .args .n) (c .before .before .before .before .before .args .n) (c .before .before .before .before .before .pre .1) (c .before .before .before .before .before .pre .2))
+
+divided-requires : tie.Need-divided-requires
+divided-requires c κs = search needs
+
+returns : tie.Need-returns
+unfolding turnOf
+returns c = rw (← c .before .before .before .before .before .read .ensures, ← c .before .before .before .before .read2 .ensures, ← c .before .read3 .ensures, ← c .before .before .before .tangent .ensures, ← c .before .before .sqrt .ensures, ← c .divided .ensures)
+
+pub turn-of-spec : {M : Type 1} → statement M
+turn-of-spec =
+    tie.close
+    (tie.spec
+    read-requires
+    read-requires-2
+    tangent-requires
+    sqrt-requires
+    read-requires-3
+    divided-requires
+    returns)
