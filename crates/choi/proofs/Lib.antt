@@ -5,3 +5,4 @@ pub mod Scatter
 pub mod Steps
 pub mod Sums
 pub mod Terms
+pub mod Values

@@ -2,7 +2,7 @@
 -- R_ab = Tr[P_a E(P_b)] / d gives it, since |i><j| = (1/d) Σ_b P_b[j][i] P_b and E(P_b) = Σ_a R_ab P_a: entry ((i, r), (j, s)) is the sum over b and a of
 -- P_b[j][i] / d · R_ab / d · P_a[r][s]. In float operations as the Rust's `normalized_choi` has them.
 use Prim.Native.Nat.{ℕ, zero, suc, _+_, _*_, _/_, _%_, _^_}
-use mathlib.Core.List.{List}
+use mathlib.Core.List.{List, []}
 use lib.IntN.{pos}
 use lib.Ieee.{Float, ofInt, binary64}
 use Rattle.lists.specs.Build.{build}
@@ -13,7 +13,7 @@ use Rattle.complex.specs.declared.Complex.{Complex}
 use Rattle.complex.specs.Arithmetic.{times, scaled, divided}
 use Rattle.refusal.specs.declared.Refusal.the-variants.{Operator}
 use Rattle.refusal.specs.declared.Verdict.{Verdict}
-use Rattle.refusal.specs.Verdicts.{finiteOr}
+use Rattle.refusal.specs.Verdicts.{firstOf, after, finiteOr, checkedNumbers}
 use Rattle.pauli.specs.Density.{stringPart}
 
 -- an entry of a Pauli string, and d
@@ -60,3 +60,11 @@ choiOf n values = build (2 * (4 ^ n * 4 ^ n)) (onPlace n (choiPart n values))
 -- `Operator::try_new` refuses a part that is not finite
 unfoldable pub choiTested : ℕ → List Float → Verdict
 choiTested n values = finiteOr Operator (choiOf n values)
+
+-- the values are tested before: as many as wanted, and finite
+unfoldable pub normalizedChoi : ℕ → List Float → Verdict
+normalizedChoi n values = firstOf (checkedNumbers (4 ^ n * 4 ^ n) values) (choiTested n values)
+
+-- the numbers that are computed: none where the values are refused
+unfoldable pub choiNumbers : ℕ → List Float → List Float
+choiNumbers n values = after (checkedNumbers (4 ^ n * 4 ^ n) values) (λ _. []) (choiOf n values)

@@ -2,6 +2,7 @@
 use refusal::Refusal;
 use refusal::Verdict;
 use sizes::four_to;
+use sizes::square;
 use sizes::two_to;
 ghost use mathlib.Core.Path.{_≡_};
 ghost use mathlib.Core.Bool.{true};
@@ -9,7 +10,7 @@ ghost use Prim.Native.Nat.{_+_, _*_, _^_, _≤_, _<_};
 ghost use lib.ListN.{length};
 ghost use Rattle.lists.specs.Build.{over};
 ghost use Rattle.numbers.specs.Slice.{allFinite};
-ghost use Rattle.choi.specs.Choi.{choiOf, choiTested};
+ghost use Rattle.choi.specs.Choi.{choiOf, choiTested, normalizedChoi, choiNumbers};
 ghost use Rattle.choi.specs.Sparse.{Sides, placeOf, share, signed, withTerm, withRow, withPair, withString};
 
 // The part of a coefficient that is not zero.
@@ -104,8 +105,8 @@ fn choi(n: usize, d: usize, p: usize, values: &[f64], out: &mut [f64])
     }
 }
 
-// The Rust's `normalized_choi`, of a transfer matrix of finite numbers. The matrix is left at the front of `out`, real and imaginary part of each entry by rows.
-pub fn normalized_choi(n: usize, values: &[f64], out: &mut [f64]) -> Verdict
+// The matrix at the front of `out`, once the values are good.
+fn choi_tested(n: usize, values: &[f64], out: &mut [f64]) -> Verdict
     requires { ⌜ (1 ≤ n) × (n ≤ 2) × (length (now values) ≡ 4 ^ n * 4 ^ n) × (2 * (4 ^ n * 4 ^ n) ≤ length (now out)) × (allFinite (now values) ≡ true) ⌝ }
     ensures { λ r. ⌜ (r ≡ choiTested n (now (values .entry))) × (now (out .exit) ≡ over (choiOf n (now (values .entry))) (now (out .entry))) ⌝ }
 {
@@ -113,4 +114,18 @@ pub fn normalized_choi(n: usize, values: &[f64], out: &mut [f64]) -> Verdict
     let m = 2 * (p * p);
     choi(n, two_to(n), p, values, &mut out[..m]);
     refusal::finite_or(Refusal::Operator, &out[..m])
+}
+
+// The Rust's `PauliTransferMatrix::try_new` and `normalized_choi`. A call whose values are good leaves the matrix at the front of `out`, real and imaginary
+// part of each entry by rows.
+pub fn normalized_choi(n: usize, values: &[f64], out: &mut [f64]) -> Verdict
+    requires { ⌜ (1 ≤ n) × (n ≤ 2) × (2 * (4 ^ n * 4 ^ n) ≤ length (now out)) ⌝ }
+    ensures { λ r. ⌜ (r ≡ normalizedChoi n (now (values .entry))) × (now (out .exit) ≡ over (choiNumbers n (now (values .entry))) (now (out .entry))) ⌝ }
+{
+    let p = four_to(n);
+    let found = refusal::check_numbers(square(p), values);
+    match found {
+        Verdict::Refused(r) => Verdict::Refused(r),
+        Verdict::Good => choi_tested(n, values, out),
+    }
 }

@@ -214,47 +214,52 @@ fn places() -> [usize; 16]
     [0; 16]
 }
 
-// The eigenvalues of the n by n Hermitian matrix in a, ascending, into w, and their vectors, in columns, into a; v is room. False where the rotations are used up.
-pub fn eigen(
-    a: &mut [f64],
-    n: usize,
-    tolerance: f64,
-    rotations: u64,
-    w: &mut [f64],
-    v: &mut [f64],
-) -> bool
-    requires { ⌜ (length (now a) ≡ 2 * (n * n)) × (length (now w) ≡ n) × (length (now v) ≡ 2 * (n * n)) × (0 < n) × (n ≤ 16) ⌝ }
+// Room for the parts of a matrix.
+fn matrix_room() -> [f64; 512]
+    ensures { λ r. ⌜ length r ≡ 512 ⌝ }
+{
+    [0.0; 512]
+}
+
+// The eigenvalues of the n by n Hermitian matrix in a, ascending, into w, and their vectors, in columns, into a. False where the rotations are used up.
+pub fn eigen(a: &mut [f64], n: usize, tolerance: f64, rotations: u64, w: &mut [f64]) -> bool
+    requires { ⌜ (length (now a) ≡ 2 * (n * n)) × (length (now w) ≡ n) × (0 < n) × (n ≤ 16) ⌝ }
     ensures { λ b. ⌜ spec.told b (now (w .exit)) (entries (now (a .exit))) ≡ spec.eigOf n tolerance rotations (entries (now (a .entry))) ⌝ }
 {
     let size = n * n;
+    let parts = 2 * size;
     let mut bounds = room();
     let mut sizes = room();
     let mut order = places();
+    let mut v = matrix_room();
     eigen_in(
         a,
         n,
         tolerance,
         rotations,
         w,
-        v,
+        &mut v[..parts],
         &mut bounds[..size],
         &mut sizes[..size],
         &mut order[..n],
     )
 }
 
-// The eigenvalues alone. What is left of a is of no use.
-pub fn eigenvalues(a: &mut [f64], n: usize, tolerance: f64, rotations: u64, w: &mut [f64]) -> bool
+// The eigenvalues alone, into w. The matrix is copied and stays as it is.
+pub fn eigenvalues(a: &[f64], n: usize, tolerance: f64, rotations: u64, w: &mut [f64]) -> bool
     requires { ⌜ (length (now a) ≡ 2 * (n * n)) × (length (now w) ≡ n) × (0 < n) × (n ≤ 16) ⌝ }
     ensures { λ b. ⌜ spec.toldValues b (now (w .exit)) ≡ spec.eigenvaluesOf n tolerance rotations (entries (now (a .entry))) ⌝ }
 {
     let size = n * n;
+    let parts = 2 * size;
     let mut bounds = room();
     let mut sizes = room();
     let mut order = places();
     let mut none = [0.0; 1];
+    let mut m = matrix_room();
+    elimination::put_row(&mut m[..parts], a);
     eigenvalues_in(
-        a,
+        &mut m[..parts],
         n,
         tolerance,
         rotations,

@@ -1,4 +1,4 @@
--- A gauge transform S of a gate set (Rust: `gauge_transform`): the state r becomes S r, each effect E (a row) E S⁻¹, each gate G S G S⁻¹, so that all
+-- A gauge transform S of a gate set (document 01, kind 6; the Rust's `gauge_transform`): the state r becomes S r, each effect E (a row) E S⁻¹, each gate G S G S⁻¹, so that all
 -- probabilities stay what they are.
 use Prim.Native.Nat.{ℕ, _+_, _*_}
 use mathlib.Core.Bool.{cond, not}

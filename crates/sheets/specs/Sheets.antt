@@ -5,8 +5,8 @@ use lib.Ieee.{Float}
 use Rattle.numbers.specs.Slice.{numberAt, numbersAt, wordsOf}
 use Rattle.refusal.specs.declared.Verdict.{Verdict}
 use Rattle.refusal.specs.Verdicts.{firstOf, after}
-use Rattle.pauli.specs.Density.{densityOf, invertedOf}
-use Rattle.transfer.specs.Process.{transferOf, processOf}
+use Rattle.pauli.specs.Density.{densityOf, invertedOf, computedOf}
+use Rattle.transfer.specs.Process.{transferOf, processOf, processNumbers}
 use Rattle.card_layout.specs.declared.Header.{Header}
 use Rattle.card_places.specs.Places.{modelWords}
 use Rattle.model.specs.Checked.{checkedOf}
@@ -21,6 +21,10 @@ densitySheet s n =
     shown (invertedOf n (numberAt s 1) (numbersAt s 2 (4 ^ n))) (Density (2 ^ n))
     (wordsOf (2 * (2 ^ n * 2 ^ n)) (densityOf n (numbersAt s 2 (4 ^ n))))
 
+-- the numbers that a call leaves at the front of the work slice: none where it is refused before the sum
+abbrev pub densityNumbers : List ℕ → ℕ → List Float
+densityNumbers s n = computedOf n (numberAt s 1) (numbersAt s 2 (4 ^ n))
+
 -- `process P`, kind 3: word 1 is the tolerance, then p input vectors and p output vectors of p numbers each
 abbrev pub vectorsOf : List ℕ → ℕ → List Float
 vectorsOf s p = numbersAt s 2 (2 * (p * p))
@@ -29,6 +33,10 @@ unfoldable pub processSheetOf : List ℕ → ℕ → Outcome
 processSheetOf s p =
     shown (processOf (numberAt s 1) (vectorsOf s p) p) (Process p)
     (wordsOf (p * p) (transferOf (numberAt s 1) (vectorsOf s p) p))
+
+-- those that a call leaves
+abbrev pub transferNumbers : List ℕ → ℕ → List Float
+transferNumbers s p = processNumbers (numberAt s 1) (vectorsOf s p) p
 
 abbrev pub processSheet : List ℕ → ℕ → Outcome
 processSheet s n = processSheetOf s (4 ^ n)

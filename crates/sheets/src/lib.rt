@@ -9,11 +9,11 @@ ghost use Prim.Native.Nat.{ℕ, _+_, _*_, _^_, _≤_, _<_};
 ghost use lib.ListN.{length};
 ghost use Rattle.lists.specs.Build.{over};
 ghost use Rattle.numbers.specs.Slice.{numberAt, numbersAt};
-ghost use Rattle.pauli.specs.Density.{invertedOf, computedOf};
-ghost use Rattle.transfer.specs.Process.{processOf, processNumbers};
+ghost use Rattle.pauli.specs.Density.{invertedOf};
+ghost use Rattle.transfer.specs.Process.{processOf};
 ghost use Rattle.card_places.specs.Shape.{Shaped};
 ghost use Rattle.outcome.specs.Outcome.{Gives};
-ghost use Rattle.sheets.specs.Sheets.{vectorsOf, densitySheet, processSheet, gaugeVerdict, gaugeNumbers, gaugeSheet};
+ghost use Rattle.sheets.specs.Sheets.{vectorsOf, densityNumbers, transferNumbers, densitySheet, processSheet, gaugeVerdict, gaugeNumbers, gaugeSheet};
 
 // Word 1 of the kinds that have a tolerance there.
 fn tolerance_of(card: &[u8]) -> f64
@@ -33,8 +33,7 @@ fn expectations_room() -> [f64; 64]
 // Inverts the expectations; the density matrix goes to the front of the work slice.
 fn invert_density(card: &[u8], n: usize, work: &mut [f64]) -> Verdict
     requires { ⌜ (n ≤ 3) × ((2 + 4 ^ n) * 8 ≤ length (now card)) × (8192 ≤ length (now work)) ⌝ }
-    ensures { λ r. ⌜ (r ≡ invertedOf n (numberAt (now (card .entry)) 1) (numbersAt (now (card .entry)) 2 (4 ^ n)))
-        × (now (work .exit) ≡ over (computedOf n (numberAt (now (card .entry)) 1) (numbersAt (now (card .entry)) 2 (4 ^ n))) (now (work .entry))) ⌝ }
+    ensures { λ r. ⌜ (r ≡ invertedOf n (numberAt (now (card .entry)) 1) (numbersAt (now (card .entry)) 2 (4 ^ n))) × (now (work .exit) ≡ over (densityNumbers (now (card .entry)) n) (now (work .entry))) ⌝ }
 {
     let count = four_to(n);
     let mut es = expectations_room();
@@ -45,7 +44,7 @@ fn invert_density(card: &[u8], n: usize, work: &mut [f64]) -> Verdict
 // Kind 1.
 pub fn density_sheet(card: &[u8], n: usize, result: &mut [u64], work: &mut [f64]) -> Answer
     requires { ⌜ (n ≤ 3) × ((2 + 4 ^ n) * 8 ≤ length (now card)) × (4096 ≤ length (now result)) × (8192 ≤ length (now work)) ⌝ }
-    ensures { λ r. ⌜ Gives (densitySheet (now (card .entry)) n) (now (result .entry)) (now (result .exit)) r ⌝ }
+    ensures { λ r. ⌜ Gives (densitySheet (now (card .entry)) n) (now (result .entry)) (now (result .exit)) r × (now (work .exit) ≡ over (densityNumbers (now (card .entry)) n) (now (work .entry))) ⌝ }
 {
     let found = invert_density(card, n, work);
     match found {
@@ -70,8 +69,7 @@ fn vectors_room() -> [f64; 512]
 // Inverts the process; the transfer matrix goes to the front of the work slice.
 fn invert_process(card: &[u8], p: usize, work: &mut [f64]) -> Verdict
     requires { ⌜ (1 ≤ p) × (p ≤ 16) × ((2 + 2 * (p * p)) * 8 ≤ length (now card)) × (8192 ≤ length (now work)) ⌝ }
-    ensures { λ r. ⌜ (r ≡ processOf (numberAt (now (card .entry)) 1) (vectorsOf (now (card .entry)) p) p)
-        × (now (work .exit) ≡ over (processNumbers (numberAt (now (card .entry)) 1) (vectorsOf (now (card .entry)) p) p) (now (work .entry))) ⌝ }
+    ensures { λ r. ⌜ (r ≡ processOf (numberAt (now (card .entry)) 1) (vectorsOf (now (card .entry)) p) p) × (now (work .exit) ≡ over (transferNumbers (now (card .entry)) p) (now (work .entry))) ⌝ }
 {
     let count = 2 * square(p);
     let mut vectors = vectors_room();
@@ -82,7 +80,7 @@ fn invert_process(card: &[u8], p: usize, work: &mut [f64]) -> Verdict
 // Kind 3.
 pub fn process_sheet(card: &[u8], n: usize, result: &mut [u64], work: &mut [f64]) -> Answer
     requires { ⌜ (n ≤ 2) × ((2 + 2 * (4 ^ n * 4 ^ n)) * 8 ≤ length (now card)) × (4096 ≤ length (now result)) × (8192 ≤ length (now work)) ⌝ }
-    ensures { λ r. ⌜ Gives (processSheet (now (card .entry)) n) (now (result .entry)) (now (result .exit)) r ⌝ }
+    ensures { λ r. ⌜ Gives (processSheet (now (card .entry)) n) (now (result .entry)) (now (result .exit)) r × (now (work .exit) ≡ over (transferNumbers (now (card .entry)) (4 ^ n)) (now (work .entry))) ⌝ }
 {
     let p = four_to(n);
     let found = invert_process(card, p, work);
@@ -110,7 +108,7 @@ fn transform(card: &[u8], h: Header, work: &mut [f64]) -> Verdict
 // Kind 6.
 pub fn gauge_sheet(card: &[u8], h: Header, result: &mut [u64], work: &mut [f64]) -> Answer
     requires { ⌜ Shaped (now card) h × (h .kind ≡ 6) × (4096 ≤ length (now result)) × (8192 ≤ length (now work)) ⌝ }
-    ensures { λ r. ⌜ Gives (gaugeSheet (now (card .entry)) h) (now (result .entry)) (now (result .exit)) r ⌝ }
+    ensures { λ r. ⌜ Gives (gaugeSheet (now (card .entry)) h) (now (result .entry)) (now (result .exit)) r × (now (work .exit) ≡ over (gaugeNumbers (now (card .entry)) h) (now (work .entry))) ⌝ }
 {
     let found = transform(card, h, work);
     match found {

@@ -1,13 +1,11 @@
 -- `choi::normalized_choi` meets its contract. Assumes nothing.
-use Rattle.choi.proofs.Sums.{length-choi, tested}
-use Rattle.choi.proofs.Steps.{square-small, room}
-use Rattle.choi.specs.Choi.{choiOf}
-use Rattle.lists.proofs.Parts.{front-is, front-over, front-long}
-use lib.Seq.{length-take-le}
+use Rattle.choi.proofs.Values.{good-finite, checked, values-refused, values-good}
+use Rattle.refusal.proofs.Verdicts.{good-length}
+use Rattle.lists.specs.Build.{over}
+use lib.Ieee.{Float}
 use denote.Ref.{now}
-use native.Mathlib.Omega.{arith}
-use Prim.Native.Nat.{ℕ, _*_}
-use mathlib.Core.Path.{sym, _∙_, ap₂}
+use mathlib.Core.List.{List}
+use mathlib.Core.Path.{_≡_, sym, ap, _∙_}
 use borrow.Author.Needs.{needs}
 use Rattle.choi.proofs.normalized_choi.Statement.{statement}
 use Rattle.choi.proofs.normalized_choi.Tie as tie
@@ -15,54 +13,52 @@ use Rattle.choi.proofs.normalized_choi.Tie as tie
 four-to-requires : tie.Need-four-to-requires
 four-to-requires c κs = search needs
 
-mul-m : tie.Need-mul-m
-mul-m c = omega (arith, square-small _ _ (c .before .before .before .pre .1) (c .four-to .ensures .0))
+square-requires : tie.Need-square-requires
+square-requires c κs = search needs
 
-mul-m-2 : tie.Need-mul-m-2
-mul-m-2 c = omega (arith, square-small _ _ (c .before .before .before .pre .1) (c .four-to .ensures .0))
+check-numbers-requires : tie.Need-check-numbers-requires
+check-numbers-requires c κs = search needs
 
-two-to-requires : tie.Need-two-to-requires
-two-to-requires c κs = search needs
+enum-known-found : tie.Need-enum-known-found
+enum-known-found c = search needs
 
-slice-relend-prefix-choi : tie.Need-slice-relend-prefix-choi
-slice-relend-prefix-choi c = room _ _ _ (c .before .four-to .ensures .0) (c .before .before .before .before .pre .3)
+enum-told : tie.Need-enum-told
+enum-told c = search needs
 
-slice-aggregate-choi : tie.Need-slice-aggregate-choi
-slice-aggregate-choi c = sym (length-take-le _ _ (room _ _ _ (c .before .before .four-to .ensures .0) (c .before .before .before .before .before .pre .3)))
+choi-tested-requires : tie.Need-choi-tested-requires
+choi-tested-requires c κs =
+    let s = c .before .before .before .before .before .before .before .before in
+    let v = checked (s .args .n) (now (s .args .values)) _ _ _ (c .before .before .before .before .before .four-to .ensures .0) (c .before .before .before .before .square .ensures .0) (c .before .before .before .check-numbers .ensures) in
+    let g = sym (c .before .enum-told .given .1) ∙ v in
+    (s .pre .0, s .pre .1, good-length _ _ g, s .pre .2, good-finite _ _ g)
 
-choi-requires : tie.Need-choi-requires
-choi-requires c κs =
-    let e = c .before .before .four-to .ensures .0 in
-    (record { some = c .before .before .before .before .before .pre .0; few = c .before .before .before .before .before .pre .1; side = c .before .two-to .ensures .0; strings = e }, c .before .before .before .before .before .pre .2 ∙ sym (ap₂ (λ (x y : ℕ). x * y) e e), length-take-le _ _ (room _ _ _ e (c .before .before .before .before .before .pre .3)), c .before .before .before .before .before .pre .4)
-
-slice-reshare-prefix-finite-or : tie.Need-slice-reshare-prefix-finite-or
-slice-reshare-prefix-finite-or c = front-long _ _ _ (choiOf (c .before .before .before .before .before .before .before .before .args .n) (now (c .before .before .before .before .before .before .before .before .args .values))) (c .before .before .choi .ensures) (length-choi _ _ _ (c .before .before .before .before .before .four-to .ensures .0))
-
-slice-aggregate-finite-or : tie.Need-slice-aggregate-finite-or
-slice-aggregate-finite-or c = sym (length-take-le _ _ (front-long _ _ _ (choiOf (c .before .before .before .before .before .before .before .before .before .args .n) (now (c .before .before .before .before .before .before .before .before .before .args .values))) (c .before .before .before .choi .ensures) (length-choi _ _ _ (c .before .before .before .before .before .before .four-to .ensures .0))))
-
-finite-or-requires : tie.Need-finite-or-requires
-finite-or-requires c κs = search needs
+returns : tie.Need-returns
+returns c =
+    let s = c .before .before .before .before .before .before .before .before in
+    let v = checked (s .args .n) (now (s .args .values)) _ _ _ (c .before .before .before .before .before .four-to .ensures .0) (c .before .before .before .before .square .ensures .0) (c .before .before .before .check-numbers .ensures) in
+    let r = values-refused (s .args .n) (now (s .args .values)) _ _ v (c .before .found .given .1) in
+    (r .0, ap (λ (x : List Float). over x (now (s .args .out))) (r .1))
 
 same-length : tie.Need-same-length
 same-length c = search needs
 
-returns : tie.Need-returns
-returns c = (tested _ _ _ _ (front-is _ _ _ _ (c .before .before .before .before .choi .ensures) (length-choi _ _ _ (c .before .before .before .before .before .before .before .four-to .ensures .0))) (c .finite-or .ensures), front-over _ _ _ _ (c .before .before .before .before .choi .ensures) (length-choi _ _ _ (c .before .before .before .before .before .before .before .four-to .ensures .0)))
+returns-2 : tie.Need-returns-2
+returns-2 c =
+    let s = c .before .before .before .before .before .before .before .before .before .before .before in
+    let v = checked (s .args .n) (now (s .args .values)) _ _ _ (c .before .before .before .before .before .before .before .before .four-to .ensures .0) (c .before .before .before .before .before .before .before .square .ensures .0) (c .before .before .before .before .before .before .check-numbers .ensures) in
+    let g = values-good (s .args .n) (now (s .args .values)) _ v (c .before .before .before .before .enum-told .given .1) in
+    (c .before .before .choi-tested .ensures .0 ∙ g .0, c .before .before .choi-tested .ensures .1 ∙ ap (λ (x : List Float). over x (now (s .args .out))) (g .1))
 
 pub normalized-choi-spec : {M : Type 1} → statement M
 normalized-choi-spec =
     tie.close
     (tie.spec
     four-to-requires
-    mul-m
-    mul-m-2
-    two-to-requires
-    slice-relend-prefix-choi
-    slice-aggregate-choi
-    choi-requires
-    slice-reshare-prefix-finite-or
-    slice-aggregate-finite-or
-    finite-or-requires
+    square-requires
+    check-numbers-requires
+    enum-known-found
+    enum-told
+    choi-tested-requires
+    returns
     same-length
-    returns)
+    returns-2)

@@ -33,7 +33,7 @@ same-length : tie.Need-same-length
 same-length c = search needs
 
 returns : tie.Need-returns
-returns c = let s = c .before .before .before .before .before .before .before .before .before .before in stays (now (s .args .result)) (density-refused _ _ _ (c .before .before .before .before .before .invert-density .ensures .0) _ (c .before .found .given .1))
+returns c = let s = c .before .before .before .before .before .before .before .before .before .before in (stays (now (s .args .result)) (density-refused _ _ _ (c .before .before .before .before .before .invert-density .ensures .0) _ (c .before .found .given .1)), c .before .before .before .before .before .invert-density .ensures .1)
 
 same-length-2 : tie.Need-same-length-2
 same-length-2 c = search needs
@@ -42,7 +42,7 @@ same-length-3 : tie.Need-same-length-3
 same-length-3 c = search needs
 
 returns-2 : tie.Need-returns-2
-returns-2 c = density-shown _ _ _ (c .before .before .before .before .before .before .before .before .before .before .invert-density .ensures .0) _ _ _ _ _ (c .before .before .before .before .before .before .enum-told .given .1) (c .before .before .before .before .before .two-to .ensures .0) (c .before .before .before .before .before .before .before .before .before .before .invert-density .ensures .1) (c .before .before .emit .ensures)
+returns-2 c = (density-shown _ _ _ (c .before .before .before .before .before .before .before .before .before .before .invert-density .ensures .0) _ _ _ _ _ (c .before .before .before .before .before .before .enum-told .given .1) (c .before .before .before .before .before .two-to .ensures .0) (c .before .before .before .before .before .before .before .before .before .before .invert-density .ensures .1) (c .before .before .emit .ensures), c .before .before .before .before .before .before .before .before .before .before .invert-density .ensures .1)
 
 pub density-sheet-spec : {M : Type 1} → statement M
 density-sheet-spec =

@@ -45,7 +45,7 @@ same-length : tie.Need-same-length
 same-length c = search needs
 
 returns : tie.Need-returns
-returns c = let s = c .before .before .before .before .before .before .before .before .before .before in stays (now (s .args .result)) (gauge-refused _ _ _ _ (c .before .before .before .before .before .transform .ensures .0) (c .before .found .given .1))
+returns c = let s = c .before .before .before .before .before .before .before .before .before .before in (stays (now (s .args .result)) (gauge-refused _ _ _ _ (c .before .before .before .before .before .transform .ensures .0) (c .before .found .given .1)), c .before .before .before .before .before .transform .ensures .1)
 
 same-length-2 : tie.Need-same-length-2
 same-length-2 c = search needs
@@ -57,7 +57,7 @@ returns-2 : tie.Need-returns-2
 returns-2 c =
     let s = c .before .before .before .before .before .before .before .before .before .before .before .before .before .before .before .before in
     let g = new-model (now (s .args .card)) (s .args .h) (sym (c .before .before .before .before .before .before .before .enum-told .given .1) ∙ c .before .before .before .before .before .before .before .before .before .before .before .transform .ensures .0) in
-    gauge-shown (now (s .args .card)) (s .args .h) _ _ _ _ _ (c .before .before .before .before .before .before .before .before .before .before .before .transform .ensures .0) (c .before .before .before .before .before .before .before .enum-told .given .1) (c .model-words .ensures .0) (front-again (gaugeNumbers (now (s .args .card)) (s .args .h)) _ (c .before .before .before .before .before .before .before .before .before .before .before .transform .ensures .1) (length-new-model _ _ _ g ∙ sym (c .before .before .before .before .before .before .model-numbers .ensures .0)) ∙ g) (c .before .before .before .put-model .ensures)
+    (gauge-shown (now (s .args .card)) (s .args .h) _ _ _ _ _ (c .before .before .before .before .before .before .before .before .before .before .before .transform .ensures .0) (c .before .before .before .before .before .before .before .enum-told .given .1) (c .model-words .ensures .0) (front-again (gaugeNumbers (now (s .args .card)) (s .args .h)) _ (c .before .before .before .before .before .before .before .before .before .before .before .transform .ensures .1) (length-new-model _ _ _ g ∙ sym (c .before .before .before .before .before .before .model-numbers .ensures .0)) ∙ g) (c .before .before .before .put-model .ensures), c .before .before .before .before .before .before .before .before .before .before .before .transform .ensures .1)
 
 pub gauge-sheet-spec : {M : Type 1} → statement M
 gauge-sheet-spec =

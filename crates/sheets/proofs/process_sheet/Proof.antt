@@ -1,11 +1,13 @@
 -- `sheets::process_sheet` meets its contract. Assumes nothing.
 use Rattle.sheets.proofs.Shown.{four-some, four-most, process-refused, process-shown}
+use Rattle.lists.specs.Build.{over}
+use Rattle.sheets.specs.Sheets.{transferNumbers}
 use Rattle.outcome.proofs.Outcomes.{stays}
 use lib.ListN.{length}
 use denote.Ref.{now}
 use native.Mathlib.Omega.{arith}
 use Prim.Native.Nat.{ℕ, _+_, _*_, _^_, _≤_}
-use mathlib.Core.Path.{_≡_, sym}
+use mathlib.Core.Path.{_≡_, sym, ap, _∙_}
 use borrow.Author.Needs.{needs}
 use Rattle.sheets.proofs.process_sheet.Statement.{statement}
 use Rattle.sheets.proofs.process_sheet.Tie as tie
@@ -32,7 +34,7 @@ same-length : tie.Need-same-length
 same-length c = search needs
 
 returns : tie.Need-returns
-returns c = let s = c .before .before .before .before .before .before .before .before .before .before .before in stays (now (s .args .result)) (process-refused _ (s .args .n) _ (c .before .before .before .before .before .before .before .four-to .ensures .0) _ (c .before .before .before .before .before .invert-process .ensures .0) _ (c .before .found .given .1))
+returns c = let s = c .before .before .before .before .before .before .before .before .before .before .before in (stays (now (s .args .result)) (process-refused _ (s .args .n) _ (c .before .before .before .before .before .before .before .four-to .ensures .0) _ (c .before .before .before .before .before .invert-process .ensures .0) _ (c .before .found .given .1)), c .before .before .before .before .before .invert-process .ensures .1 ∙ ap (λ (p : ℕ). over (transferNumbers (now (s .args .card)) p) (now (s .args .work))) (c .before .before .before .before .before .before .before .four-to .ensures .0))
 
 same-length-2 : tie.Need-same-length-2
 same-length-2 c = search needs
@@ -41,7 +43,7 @@ same-length-3 : tie.Need-same-length-3
 same-length-3 c = search needs
 
 returns-2 : tie.Need-returns-2
-returns-2 c = let s = c .before .before .before .before .before .before .before .before .before .before .before .before .before .before .before .before in process-shown _ (s .args .n) _ (c .before .before .before .before .before .before .before .before .before .before .before .before .four-to .ensures .0) _ (c .before .before .before .before .before .before .before .before .before .before .invert-process .ensures .0) _ _ _ _ _ (c .before .before .before .before .before .before .enum-told .given .1) (c .before .before .before .before .square .ensures .0) (c .before .before .before .before .before .before .before .before .before .before .invert-process .ensures .1) (c .before .before .emit .ensures)
+returns-2 c = let s = c .before .before .before .before .before .before .before .before .before .before .before .before .before .before .before .before in (process-shown _ (s .args .n) _ (c .before .before .before .before .before .before .before .before .before .before .before .before .four-to .ensures .0) _ (c .before .before .before .before .before .before .before .before .before .before .invert-process .ensures .0) _ _ _ _ _ (c .before .before .before .before .before .before .enum-told .given .1) (c .before .before .before .before .square .ensures .0) (c .before .before .before .before .before .before .before .before .before .before .invert-process .ensures .1) (c .before .before .emit .ensures), c .before .before .before .before .before .before .before .before .before .before .invert-process .ensures .1 ∙ ap (λ (p : ℕ). over (transferNumbers (now (s .args .card)) p) (now (s .args .work))) (c .before .before .before .before .before .before .before .before .before .before .before .before .four-to .ensures .0))
 
 pub process-sheet-spec : {M : Type 1} → statement M
 process-sheet-spec =

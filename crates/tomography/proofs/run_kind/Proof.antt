@@ -25,7 +25,7 @@ same-length-2 c = search needs
 
 returns : tie.Need-returns
 unfolding kindSheet
-returns c = same-outcome (yes _ (eq-eqb _ _ (c .before .before .before .before .before .before .before .if1 .taken))) (c .before .before .before .before .density-sheet .ensures)
+returns c = same-outcome (yes _ (eq-eqb _ _ (c .before .before .before .before .before .before .before .if1 .taken))) (c .before .before .before .before .density-sheet .ensures .0)
 
 process-sheet-requires : tie.Need-process-sheet-requires
 process-sheet-requires c κs =
@@ -41,7 +41,7 @@ same-length-4 c = search needs
 
 returns-2 : tie.Need-returns-2
 unfolding kindSheet
-returns-2 c = same-outcome (no _ (ne-eqb _ _ (c .before .before .before .before .before .before .before .before .if1 .left)) (yes _ (eq-eqb _ _ (c .before .before .before .before .before .before .before .if2 .taken)))) (c .before .before .before .before .process-sheet .ensures)
+returns-2 c = same-outcome (no _ (ne-eqb _ _ (c .before .before .before .before .before .before .before .before .if1 .left)) (yes _ (eq-eqb _ _ (c .before .before .before .before .before .before .before .if2 .taken)))) (c .before .before .before .before .process-sheet .ensures .0)
 
 gauge-sheet-requires : tie.Need-gauge-sheet-requires
 gauge-sheet-requires c κs =
@@ -56,7 +56,7 @@ same-length-6 c = search needs
 
 returns-3 : tie.Need-returns-3
 unfolding kindSheet
-returns-3 c = same-outcome (no _ (ne-eqb _ _ (c .before .before .before .before .before .before .before .before .before .if1 .left)) (no _ (ne-eqb _ _ (c .before .before .before .before .before .before .before .before .if2 .left)) (yes _ (eq-eqb _ _ (c .before .before .before .before .before .before .before .if3 .taken))))) (c .before .before .before .before .gauge-sheet .ensures)
+returns-3 c = same-outcome (no _ (ne-eqb _ _ (c .before .before .before .before .before .before .before .before .before .if1 .left)) (no _ (ne-eqb _ _ (c .before .before .before .before .before .before .before .before .if2 .left)) (yes _ (eq-eqb _ _ (c .before .before .before .before .before .before .before .if3 .taken))))) (c .before .before .before .before .gauge-sheet .ensures .0)
 
 returns-4 : tie.Need-returns-4
 unfolding kindSheet
