@@ -20,10 +20,11 @@ extern "C" {
 /* The sheet of a card.
  *
  * Returns 0 where a sheet was made, and the refusal's number N otherwise.
- * answer: its first five words are written: the kind of the sheet, the number of its header, 0, 0, 0, or 0, N, A, B, 0; with fewer than five words
- *   nothing is written there and 16 is returned. Words beyond the fifth keep their values. The header's number is for kind 1 the density matrix's
+ * answer: its first five words are written: the kind of the sheet and the numbers of its header, then zeros, or 0, N, A, B, 0; with fewer than five
+ *   words nothing is written there and 16 is returned. Words beyond the fifth keep their values. The header's number is for kind 1 the density matrix's
  *   dimension d (result gets 2 d^2 words, the real and the imaginary part of each entry), for kind 3 the transfer matrix's size p (p^2 words), for kind 6
- *   how many words the model has.
+ *   how many words the model has. Kind 4 has three, each 0 or 1: whether the process keeps the trace, whether it keeps the identity, and whether it is
+ *   completely positive; result gets no word.
  * result: a sheet writes its numbers from word 0, in the order in which they are printed, and no other word; a refusal writes none.
  * work: all +0 after either outcome. What it held before does not matter. */
 uint64_t mintshuttle_sheet(const uint8_t *card, size_t card_len, uint64_t *result, size_t result_len, double *work, size_t work_len, uint64_t *answer,
@@ -46,6 +47,12 @@ uint64_t mintshuttle_setting(uint64_t n, uint64_t index, uint64_t *result, size_
  * where a number is not finite, of the values and then of the input. */
 uint64_t mintshuttle_apply(uint64_t n, const double *values, size_t values_len, const double *input, size_t input_len, uint64_t *result,
                            size_t result_len, double *work, size_t work_len, uint64_t *answer, size_t answer_len);
+
+/* The normalized Choi matrix of a transfer matrix of 4^n by 4^n values, by rows, n 1 or 2: result gets the real and the imaginary part of each of the
+ * 4^n by 4^n entries, by rows (numbers as words); the answer is 11, 4^n, 0, 0, 0. Returns 0, or N: 16; 1 where n is 0 or above 2; 2 with A the wanted and
+ * B the given length; 3 where a value is not finite; 6 where a part of the matrix is not. */
+uint64_t mintshuttle_choi(uint64_t n, const double *values, size_t values_len, uint64_t *result, size_t result_len, double *work, size_t work_len,
+                          uint64_t *answer, size_t answer_len);
 
 /* The number leaves, on many numbers: out[i] = f(x[i]) for every i below the smaller length, which is returned. The root is IEEE 754's nearest; the
  * logarithm's error is below 2^-40, and below 2^-48 for x from 1/2 to 2 (docs/PROMISES.md says against what). */

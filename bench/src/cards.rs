@@ -63,6 +63,7 @@ pub fn calls() -> Vec<(&'static str, Call)> {
     vec![
         ("3 qubits", Call::Probes { n: 3 }),
         ("2 qubits", Call::Apply { n: 2, values: numbers(256), input: numbers(16) }),
+        ("2 qubits", Call::Choi { n: 2, values: numbers(256) }),
     ]
 }
 

@@ -1,5 +1,5 @@
 //! The port and the Rust on the same cards and calls, in one process: `bench [ROUNDS [KIND..]]`. KIND is 1 to 7, `probes`,
-//! `apply`, `sqrt` or `ln`.
+//! `apply`, `choi`, `sqrt` or `ln`.
 //!
 //! A round runs a batch of each in turn, so that a slower or faster stretch of the machine meets all of them. The median
 //! over the rounds is printed.
@@ -25,7 +25,7 @@ use std::time::Instant;
 const BATCH_NS: f64 = 1e6;
 /// Length of the arrays of `sqrt` and `ln`.
 const NUMBERS: usize = 4096;
-const USAGE: &str = "bench [ROUNDS [1..7 | probes | apply | sqrt | ln]..]";
+const USAGE: &str = "bench [ROUNDS [1..7 | probes | apply | choi | sqrt | ln]..]";
 /// What is timed, with the name that is printed.
 type Run = (&'static str, Box<dyn FnMut()>);
 
@@ -93,6 +93,12 @@ fn rust_call_alone(call: Call) -> Box<dyn FnMut()> {
             let transfer = PauliTransferMatrix::try_new(n as usize, values).unwrap();
             Box::new(move || {
                 black_box(black_box(&transfer).apply_expectations(black_box(&input))).unwrap();
+            })
+        }
+        Call::Choi { n, values } => {
+            let transfer = PauliTransferMatrix::try_new(n as usize, values).unwrap();
+            Box::new(move || {
+                black_box(black_box(&transfer).normalized_choi()).unwrap();
             })
         }
     }
@@ -273,7 +279,7 @@ fn main() {
     let rounds: usize = arguments.first().map_or(201, |rounds| rounds.parse().expect(USAGE));
     assert!(rounds > 0, "{USAGE}");
     let asked = arguments.get(1..).unwrap_or_default();
-    let known = ["1", "2", "3", "4", "5", "6", "7", "probes", "apply", "sqrt", "ln"];
+    let known = ["1", "2", "3", "4", "5", "6", "7", "probes", "apply", "choi", "sqrt", "ln"];
     assert!(asked.iter().all(|kind| known.contains(&kind.as_str())), "{USAGE}");
     let wanted = |kind: &str| asked.is_empty() || asked.iter().any(|name| name == kind);
     for (name, words) in cards::cards() {

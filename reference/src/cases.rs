@@ -1,9 +1,9 @@
 //! What happened in a card's run or in a call, so that a comparison can show that it met each case.
 
 use crate::card::{self, Job, Model, Refusal};
-use crate::hooks::Pivot;
+use crate::hooks::{Notes, Pivot, Turn};
 use crate::library::Call;
-use crate::sheet::Outcome;
+use crate::sheet::{self, Outcome};
 
 /// Cases by name.
 pub type Cases = Vec<&'static str>;
@@ -53,6 +53,73 @@ fn of_pivots(cases: &mut Cases, outcome: &Outcome, pivots: &[Pivot]) {
     put("refused 3 after a finite inversion", refused_as(outcome, 3) && !pivots.is_empty() && !any(|p| !p.finite));
 }
 
+/// Of `eig`. The last turn is the one at which it ended, or after which the rotations were used up.
+fn of_turns(cases: &mut Cases, outcome: &Outcome, turns: &[Turn]) {
+    let mut put = |case, met| {
+        if met {
+            cases.push(case);
+        }
+    };
+    let any = |met: fn(&Turn) -> bool| turns.iter().any(met);
+    let accepted = matches!(outcome, Outcome::Accepted { .. });
+    let last = |steps| turns.last().is_some_and(|t| t.limit > 0.0 && steps_above(t.best, t.limit) == steps);
+    put("a tie of the largest entries", any(|t| t.tie && t.best > 0.0));
+    put("the largest entry at the limit", accepted && last(0));
+    put("the largest entry one float below the limit", accepted && last(-1));
+    put("the largest entry one float above the limit", any(|t| t.limit > 0.0 && steps_above(t.best, t.limit) == 1));
+    put("a limit of zero", any(|t| t.limit == 0.0));
+    put("no rotation", accepted && turns.len() == 1);
+    put("200 rotations or more", turns.len() > 200);
+    put("not finite while rotating", any(|t| !t.finite));
+    put("a NaN magnitude", any(|t| t.nan));
+}
+
+/// Of eigenvalues beside minus the tolerance.
+fn of_eigenvalues(cases: &mut Cases, eigenvalues: &[f64], tolerance: f64) {
+    let mut put = |case, met| {
+        if met {
+            cases.push(case);
+        }
+    };
+    let beside = |x: f64| eigenvalues.contains(&x);
+    put("an eigenvalue at minus the tolerance", beside(-tolerance));
+    put("an eigenvalue one float above minus the tolerance", beside((-tolerance).next_up()));
+    put("an eigenvalue one float below minus the tolerance", beside((-tolerance).next_down()));
+    put("a NaN as eigenvalue", eigenvalues.iter().any(|x| x.is_nan()));
+    put("an infinite eigenvalue", eigenvalues.iter().any(|x| x.is_infinite()));
+    let equal = |(k, x): (usize, &f64)| eigenvalues[..k].contains(x);
+    put("equal eigenvalues", eigenvalues.iter().enumerate().any(equal));
+}
+
+/// Of a card of kind 4: its sheet, its rotations, and what the trace and the identity are compared with.
+fn of_physical(cases: &mut Cases, bytes: &[u8], outcome: &Outcome, job: &Job, notes: &Notes) {
+    let Job::Physical { tolerance, rotations, values, .. } = job else { unreachable!("a card of kind 4") };
+    let mut put = |case, met| {
+        if met {
+            cases.push(case);
+        }
+    };
+    if let Outcome::Accepted { header: [trace, unital, positive, _], .. } = outcome {
+        put("physical 1 1 1", [trace, unital, positive] == [&1, &1, &1]);
+        put("physical 1 1 0", [trace, unital, positive] == [&1, &1, &0]);
+        put("physical 1 0 1", [trace, unital, positive] == [&1, &0, &1]);
+        put("physical 0 1 1", [trace, unital, positive] == [&0, &1, &1]);
+        put("physical 0 0 0", [trace, unital, positive] == [&0, &0, &0]);
+        put("just enough rotations", notes.turns.len() == *rotations);
+    }
+    if refused_as(outcome, 12) {
+        let mut words = card::whole_words(bytes);
+        words[2] += 1;
+        put("one rotation too few", !refused_as(&sheet::outcome(&card::bytes_of(&words)), 12));
+    }
+    put("no finite tolerance beside values that are not finite", any_bad(values) && !tolerance.is_finite());
+    let p = values.len().isqrt();
+    let first = (0..p).flat_map(|k| [(k, values[k]), (k, values[k * p])]);
+    let differences: Vec<f64> = first.map(|(k, x)| (x - if k == 0 { 1.0 } else { 0.0 }).abs()).collect();
+    put("a difference at the tolerance", differences.contains(tolerance));
+    put("a difference one float above the tolerance", differences.contains(&tolerance.next_up()));
+}
+
 /// Of the model; its names.
 fn of_model(cases: &mut Cases, model: &Model) -> Vec<u64> {
     let mut put = |case, met| {
@@ -89,9 +156,10 @@ fn of_words(cases: &mut Cases, outcome: &Outcome, names: &[u64]) {
     }
 }
 
-/// Of a card of kind 3 or 6; others have none.
-pub fn of_card(bytes: &[u8], outcome: &Outcome, pivots: &[Pivot]) -> Cases {
+/// Of a card of kind 3, 4 or 6; others have none.
+pub fn of_card(bytes: &[u8], outcome: &Outcome, notes: &Notes) -> Cases {
     let mut cases = Vec::new();
+    let pivots = &notes.pivots;
     match card::read(bytes) {
         Ok(Job::Process { inputs, outputs, .. }) => {
             of_pivots(&mut cases, outcome, pivots);
@@ -101,6 +169,11 @@ pub fn of_card(bytes: &[u8], outcome: &Outcome, pivots: &[Pivot]) -> Cases {
                     cases.push(bad);
                 }
             }
+        }
+        Ok(job @ Job::Physical { tolerance, .. }) => {
+            of_turns(&mut cases, outcome, &notes.turns);
+            of_eigenvalues(&mut cases, &notes.eigenvalues, tolerance);
+            of_physical(&mut cases, bytes, outcome, &job, notes);
         }
         Ok(Job::Gauge { model, transform }) => {
             of_pivots(&mut cases, outcome, pivots);
@@ -130,6 +203,14 @@ pub fn of_call(call: &Call, outcome: &Outcome) -> Cases {
         }
         if refused_as(outcome, 3) {
             cases.push(if any_bad(values) { "not finite in the values" } else { "not finite in the input" });
+        }
+    }
+    if let Call::Choi { values, .. } = call {
+        if refused_as(outcome, 2) && any_bad(values) {
+            cases.push("a wrong length beside numbers that are not finite");
+        }
+        if matches!(outcome, Outcome::Accepted { .. }) && values.iter().any(|x| x.abs() == f64::MAX) {
+            cases.push("the largest finite numbers, accepted");
         }
     }
     cases

@@ -1,6 +1,7 @@
 //! What the changed Rust asks from outside and tells to outside. It has no argument for either, so both stand beside it.
 
 use crate::leaves::Leaves;
+use crate::open_quantum_systems::Complex64;
 use core::cmp::Ordering;
 use std::cell::{Cell, RefCell};
 
@@ -8,7 +9,16 @@ thread_local! {
     static ROTATIONS: Cell<Option<usize>> = const { Cell::new(None) };
     static EVALUATIONS: Cell<u64> = const { Cell::new(0) };
     static WATCHED: Cell<bool> = const { Cell::new(false) };
-    static PIVOTS: RefCell<Vec<Pivot>> = const { RefCell::new(Vec::new()) };
+    static NOTES: RefCell<Notes> = const { RefCell::new(Notes { pivots: Vec::new(), turns: Vec::new(), eigenvalues: Vec::new() }) };
+}
+
+/// What happened inside the Rust's functions.
+#[derive(Default)]
+pub struct Notes {
+    pub pivots: Vec<Pivot>,
+    pub turns: Vec<Turn>,
+    /// Of the last `eig` that came to an end.
+    pub eigenvalues: Vec<f64>,
 }
 
 /// A pivot as the Rust's elimination chose it, before it is tested.
@@ -23,6 +33,20 @@ pub struct Pivot {
     /// It comes from a lower row.
     pub moved: bool,
     /// Both matrices are finite so far.
+    pub finite: bool,
+}
+
+/// A turn of `eig`'s loop, before it tests whether another rotation is needed.
+#[derive(Clone, Copy, Debug)]
+pub struct Turn {
+    /// The largest magnitude above the diagonal, and what it is compared with.
+    pub best: f64,
+    pub limit: f64,
+    /// Another entry above the diagonal is as large.
+    pub tie: bool,
+    /// A magnitude above the diagonal is a NaN.
+    pub nan: bool,
+    /// Every part of the matrix is finite.
     pub finite: bool,
 }
 
@@ -41,13 +65,19 @@ pub fn with_evaluations<T>(f: impl FnOnce() -> T) -> (T, u64) {
     (value, EVALUATIONS.get())
 }
 
-/// Runs `f` and tells the pivots of every elimination inside; none without the feature `watch`.
-pub fn with_pivots<T>(f: impl FnOnce() -> T) -> (T, Vec<Pivot>) {
-    PIVOTS.take();
+/// Runs `f` and tells what was noted inside; nothing without the feature `watch`.
+pub fn with_notes<T>(f: impl FnOnce() -> T) -> (T, Notes) {
+    NOTES.take();
     WATCHED.set(true);
     let value = f();
     WATCHED.set(false);
-    (value, PIVOTS.take())
+    (value, NOTES.take())
+}
+
+/// The pivots of every elimination inside `f`.
+pub fn with_pivots<T>(f: impl FnOnce() -> T) -> (T, Vec<Pivot>) {
+    let (value, notes) = with_notes(f);
+    (value, notes.pivots)
 }
 
 pub(crate) fn rotation_limit() -> usize {
@@ -78,5 +108,34 @@ fn keep_pivot(left: &[f64], right: &[f64], n: usize, k: usize, pivot: usize, thr
         moved: pivot != k,
         finite: left.iter().chain(right).all(|x| x.is_finite()),
     };
-    PIVOTS.with_borrow_mut(|pivots| pivots.push(noted));
+    NOTES.with_borrow_mut(|notes| notes.pivots.push(noted));
+}
+
+/// A turn of `eig` on the n by n matrix a.
+#[inline(always)]
+pub(crate) fn note_turn(a: &[Complex64], n: usize, best: f64, limit: f64) {
+    if cfg!(feature = "watch") && WATCHED.get() {
+        keep_turn(a, n, best, limit);
+    }
+}
+
+#[cold]
+fn keep_turn(a: &[Complex64], n: usize, best: f64, limit: f64) {
+    let above = || (0..n).flat_map(|i| (i + 1..n).map(move |j| a[i * n + j].norm()));
+    let noted = Turn {
+        best,
+        limit,
+        tie: above().filter(|&size| size == best).count() > 1,
+        nan: above().any(f64::is_nan),
+        finite: a.iter().all(|z| z.re.is_finite() && z.im.is_finite()),
+    };
+    NOTES.with_borrow_mut(|notes| notes.turns.push(noted));
+}
+
+/// The eigenvalues of an `eig` that came to an end.
+#[inline(always)]
+pub(crate) fn note_eigenvalues(eigenvalues: &[f64]) {
+    if cfg!(feature = "watch") && WATCHED.get() {
+        NOTES.with_borrow_mut(|notes| notes.eigenvalues = eigenvalues.to_vec());
+    }
 }

@@ -17,7 +17,7 @@ pub mod sheet;
 pub mod substitute;
 
 /// The kinds that the port's sheet entry has so far. Its reader has all of 1 to 7.
-pub const BUILT: &[u8] = &[1, 3, 6];
+pub const BUILT: &[u8] = &[1, 2, 3, 4, 6, 7];
 
 /// The Rust with its substitutions.
 #[allow(clippy::all)]

@@ -10,6 +10,7 @@ pub enum Call {
     Probes { n: u64 },
     Setting { n: u64, index: u64 },
     Apply { n: u64, values: Vec<f64>, input: Vec<f64> },
+    Choi { n: u64, values: Vec<f64> },
 }
 
 impl Call {
@@ -19,10 +20,11 @@ impl Call {
             Call::Probes { .. } => ("probes", 8),
             Call::Setting { .. } => ("setting", 9),
             Call::Apply { .. } => ("apply", 10),
+            Call::Choi { .. } => ("choi", 11),
         }
     }
 
-    /// As stored calls have it: the entry, n, then the index, or the count of the values, the values and the input.
+    /// As stored calls have it: the entry, n, then the index, or the count of the values, the values and, of `apply`, the input.
     pub fn words(&self) -> Vec<u64> {
         let entry = u64::from(self.entry().1);
         match self {
@@ -31,6 +33,11 @@ impl Call {
             Call::Apply { n, values, input } => {
                 let mut words = vec![entry, *n, values.len() as u64];
                 words.extend(values.iter().chain(input).map(|x| x.to_bits()));
+                words
+            }
+            Call::Choi { n, values } => {
+                let mut words = vec![entry, *n, values.len() as u64];
+                words.extend(values.iter().map(|x| x.to_bits()));
                 words
             }
         }
@@ -42,11 +49,17 @@ impl Call {
             Call::Probes { n } => probes(*n),
             Call::Setting { n, index } => setting(*n, *index),
             Call::Apply { n, values, input } => apply(*n, values, input),
+            Call::Choi { n, values } => choi(*n, values),
         };
         match words {
-            // A design has a row for each probe; the others have one number for what they count.
+            // A design has a row for each probe, a Choi matrix two parts an entry; the others have one number for what they
+            // count.
             Ok(words) => {
-                let count = if matches!(self, Call::Probes { .. }) { words.len().isqrt() } else { words.len() };
+                let count = match self {
+                    Call::Probes { .. } => words.len().isqrt(),
+                    Call::Choi { .. } => (words.len() / 2).isqrt(),
+                    _ => words.len(),
+                };
                 Outcome::Accepted { kind: self.entry().1, header: [count as u64, 0, 0, 0], words }
             }
             Err(refusal) => Outcome::Refused(refusal),
@@ -87,4 +100,10 @@ fn apply(n: u64, values: &[f64], input: &[f64]) -> Result<Vec<u64>, Refusal> {
     let transfer = PauliTransferMatrix::try_new(qubits(n, 2)?, values.to_vec()).map_err(refusal_of)?;
     let output = transfer.apply_expectations(input).map_err(refusal_of)?;
     Ok(output.into_iter().map(word_of).collect())
+}
+
+fn choi(n: u64, values: &[f64]) -> Result<Vec<u64>, Refusal> {
+    let transfer = PauliTransferMatrix::try_new(qubits(n, 2)?, values.to_vec()).map_err(refusal_of)?;
+    let matrix = transfer.normalized_choi().map_err(refusal_of)?;
+    Ok(matrix.as_slice().iter().flat_map(|z| [word_of(z.re), word_of(z.im)]).collect())
 }

@@ -51,13 +51,25 @@ extern "C" {
         answer_len: usize,
     ) -> u64;
 
+    fn mintshuttle_choi(
+        n: u64,
+        values: *const f64,
+        values_len: usize,
+        result: *mut u64,
+        result_len: usize,
+        work: *mut f64,
+        work_len: usize,
+        answer: *mut u64,
+        answer_len: usize,
+    ) -> u64;
+
     fn mintshuttle_sqrt_all(x: *const f64, x_len: usize, out: *mut f64, out_len: usize) -> usize;
 
     fn mintshuttle_ln_all(x: *const f64, x_len: usize, out: *mut f64, out_len: usize) -> usize;
 }
 
 /// The library entries that the port has; calls of others are passed over.
-pub const ENTRIES: &[&str] = &["probes", "setting", "apply"];
+pub const ENTRIES: &[&str] = &["probes", "setting", "apply", "choi"];
 
 /// The least lengths of the lent slices.
 pub const RESULT_WORDS: usize = 4096;
@@ -147,12 +159,31 @@ pub fn apply(
     }
 }
 
+/// The normalized Choi matrix of a transfer matrix.
+pub fn choi(n: u64, values: &[f64], result: &mut [u64], work: &mut [u64], answer: &mut [u64]) -> u64 {
+    // SAFETY: as for the sheet.
+    unsafe {
+        mintshuttle_choi(
+            n,
+            values.as_ptr(),
+            values.len(),
+            result.as_mut_ptr(),
+            result.len(),
+            work.as_mut_ptr().cast::<f64>(),
+            work.len(),
+            answer.as_mut_ptr(),
+            answer.len(),
+        )
+    }
+}
+
 /// Any library call.
 pub fn call(call: &Call, result: &mut [u64], work: &mut [u64], answer: &mut [u64]) -> u64 {
     match call {
         Call::Probes { n } => probes(*n, result, work, answer),
         Call::Setting { n, index } => setting(*n, *index, result, work, answer),
         Call::Apply { n, values, input } => apply(*n, values, input, result, work, answer),
+        Call::Choi { n, values } => choi(*n, values, result, work, answer),
     }
 }
 

@@ -11,7 +11,7 @@ use core::fmt::Write;
 
 #[derive(Clone, Debug, PartialEq, Eq)]
 pub enum Outcome {
-    /// The kind (8 to 10 for library calls), the header's numbers with zeros after them, and the result words.
+    /// The kind (8 to 11 for library calls), the header's numbers with zeros after them, and the result words.
     Accepted { kind: u8, header: [u64; 4], words: Vec<u64> },
     Refused(Refusal),
 }
@@ -277,10 +277,11 @@ pub fn print(outcome: &Outcome) -> String {
                 8 => writeln!(text, "probes {a}"),
                 9 => writeln!(text, "setting {a}"),
                 10 => writeln!(text, "applied {a}"),
+                11 => writeln!(text, "choi {a}"),
                 kind => unreachable!("kind {kind} has no sheet"),
             }
             .unwrap();
-            let parts = if *kind <= 2 { 2 } else { 1 };
+            let parts = if matches!(kind, 1 | 2 | 11) { 2 } else { 1 };
             for line in words.chunks(parts) {
                 let numbers: Vec<String> = line.iter().map(|word| format!("{word:016x}")).collect();
                 writeln!(text, "{}", numbers.join(" ")).unwrap();

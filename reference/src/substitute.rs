@@ -46,6 +46,18 @@ pub const SUBSTITUTIONS: &[Substitution] = &[
         to: "crate::hooks::note_pivot(&l, &r, n, k, pivot, pivot_threshold);\n        if l[pivot * n + k].abs() <= pivot_threshold {",
         times: 1,
     },
+    Substitution {
+        name: "rotations",
+        from: "        if best <= tolerance * scale {",
+        to: "        crate::hooks::note_turn(&a, n, best, tolerance * scale);\n        if best <= tolerance * scale {",
+        times: 1,
+    },
+    Substitution {
+        name: "eigenvalues",
+        from: "            let mut order: Vec<_> = (0..n).collect();",
+        to: "            crate::hooks::note_eigenvalues(&eigenvalues);\n            let mut order: Vec<_> = (0..n).collect();",
+        times: 1,
+    },
     // An included file may have no inner documentation or attributes.
     Substitution {
         name: "inner documentation",

@@ -2,7 +2,7 @@
 
 use crate::card::{bytes_of, layout, read, Head, Refusal, Role};
 use crate::cases;
-use crate::hooks::with_pivots;
+use crate::hooks::with_notes;
 use crate::makers::fixed::{self, *};
 use crate::makers::numbers::power;
 use crate::library::Call;
@@ -373,8 +373,8 @@ fn end_of(outcome: &Outcome) -> String {
 fn cases_met(cards: impl Iterator<Item = Vec<u8>>) -> BTreeMap<String, usize> {
     let mut met = BTreeMap::new();
     for bytes in cards {
-        let (outcome, pivots) = with_pivots(|| outcome(&bytes));
-        let cases = cases::of_card(&bytes, &outcome, &pivots);
+        let (outcome, notes) = with_notes(|| outcome(&bytes));
+        let cases = cases::of_card(&bytes, &outcome, &notes);
         for case in cases.into_iter().map(str::to_string).chain([end_of(&outcome)]) {
             *met.entry(case).or_default() += 1;
         }
@@ -437,6 +437,46 @@ const GAUGES: &[&str] = &[
     "refused 10",
     "refused 13",
 ];
+
+const TESTS: &[&str] = &[
+    "a tie of the largest entries",
+    "the largest entry at the limit",
+    "the largest entry one float below the limit",
+    "the largest entry one float above the limit",
+    "a limit of zero",
+    "no rotation",
+    "200 rotations or more",
+    "not finite while rotating",
+    "a NaN magnitude",
+    "an eigenvalue at minus the tolerance",
+    "an eigenvalue one float above minus the tolerance",
+    "an eigenvalue one float below minus the tolerance",
+    "a NaN as eigenvalue",
+    "equal eigenvalues",
+    "physical 1 1 1",
+    "physical 1 1 0",
+    "physical 1 0 1",
+    "physical 0 1 1",
+    "physical 0 0 0",
+    "just enough rotations",
+    "one rotation too few",
+    "a difference at the tolerance",
+    "a difference one float above the tolerance",
+    "accepted",
+    "refused 1",
+    "refused 2",
+    "refused 3",
+    "refused 5",
+    "refused 12",
+    "refused 15",
+];
+
+#[test]
+fn random_tests_of_transfer_matrices_meet_every_case() {
+    let mut rng = Rng::new(41);
+    let met = cases_met((0..20_000).map(|_| makers::card(4, &mut rng)));
+    at_least(&met, 30, TESTS);
+}
 
 #[test]
 fn random_cards_meet_every_case() {
@@ -519,7 +559,18 @@ fn library_calls() {
     let nan = f64::NAN;
     for n in [0, 3, u64::MAX] {
         assert_eq!(apply(n, &[nan], &[nan]).1, [0, 1, 0, 0, 0]);
+        assert_eq!(called(Call::Choi { n, values: vec![nan] }).1, [0, 1, 0, 0, 0]);
     }
+    let choi = |n, values: &[f64]| called(Call::Choi { n, values: values.to_vec() });
+    // The state (|00> + |11>)/sqrt 2 for the identity.
+    let half = 0.5f64.to_bits();
+    let mut wanted = vec![0; 32];
+    [0, 6, 24, 30].map(|place| wanted[place] = half);
+    assert_eq!(choi(1, &identity), (0, [11, 4, 0, 0, 0], wanted));
+    assert_eq!(choi(2, &[0.0; 256]), (0, [11, 16, 0, 0, 0], vec![0; 512]));
+    assert_eq!(choi(1, &[nan; 15]).1, [0, 2, 16, 15, 0]);
+    assert_eq!(choi(2, &identity).1, [0, 2, 256, 16, 0]);
+    assert_eq!(choi(1, &[f64::INFINITY; 16]).1, [0, 3, 0, 0, 0]);
     assert_eq!(apply(1, &[nan; 15], &[nan]).1, [0, 2, 16, 15, 0]);
     assert_eq!(apply(2, &identity, &[nan]).1, [0, 2, 256, 16, 0]);
     assert_eq!(apply(1, &[nan; 16], &[nan]).1, [0, 3, 0, 0, 0]);
@@ -530,7 +581,7 @@ fn library_calls() {
 #[test]
 fn random_calls_meet_every_case() {
     let mut met = BTreeMap::new();
-    for entry in ["probes", "setting", "apply"] {
+    for entry in ["probes", "setting", "apply", "choi"] {
         let mut rng = Rng::new(37);
         for _ in 0..20_000 {
             let call = calls::call(entry, &mut rng);
@@ -558,6 +609,13 @@ fn random_calls_meet_every_case() {
         "apply: a wrong length beside numbers that are not finite",
         "apply: not finite in the values",
         "apply: not finite in the input",
+        "choi: accepted",
+        "choi: refused 1",
+        "choi: refused 2",
+        "choi: refused 3",
+        "choi: a subnormal in the result",
+        "choi: the largest finite numbers, accepted",
+        "choi: a wrong length beside numbers that are not finite",
     ];
     at_least(&met, 30, &cases);
 }
@@ -566,9 +624,10 @@ fn random_calls_meet_every_case() {
 fn stored_calls() {
     let list = calls::stored();
     let printed: Vec<String> = list.iter().map(|call| print(&call.outcome())).collect();
-    assert!((50..=100).contains(&list.len()), "{}", list.len());
+    assert!((80..=130).contains(&list.len()), "{}", list.len());
     assert_eq!(printed.iter().filter(|text| text.starts_with("probes 64\n")).count(), 1);
-    for start in ["probes 4\n", "probes 16\n", "setting 1\n", "setting 2\n", "setting 3\n", "applied 4\n", "applied 16\n"] {
+    let starts = ["probes 4\n", "probes 16\n", "setting 1\n", "setting 2\n", "setting 3\n", "applied 4\n", "applied 16\n"];
+    for start in starts.into_iter().chain(["choi 4\n", "choi 16\n"]) {
         assert!(printed.iter().any(|text| text.starts_with(start)), "{start}");
     }
     for start in ["refused 1 ", "refused 2 ", "refused 3 ", "refused 15 "] {

@@ -12,7 +12,8 @@ use Rattle.refusal.specs.declared.Refusal.the-variants.{Shape, NonFinite}
 use Rattle.refusal.specs.declared.Verdict.{Verdict}
 use Rattle.refusal.specs.declared.Verdict.the-variants.{Good, Refused}
 use Rattle.refusal.specs.Verdicts.{firstOf, after, finiteOr, checkedNumbers}
-use Rattle.refusal.proofs.Verdicts.{never-good}
+use Rattle.refusal.proofs.Verdicts.{never-good, both-good}
+use Rattle.lists.proofs.Filling.{length-build}
 use Rattle.choi.specs.Choi.{choiOf, choiTested, normalizedChoi, choiNumbers}
 
 -- good numbers are finite
@@ -37,3 +38,12 @@ module _ (n : ℕ) (values : List Float) where
   pub values-good : (w : Verdict) → w ≡ checkedNumbers (4 ^ n * 4 ^ n) values → w ≡ Good → (choiTested n values ≡ normalizedChoi n values) × (choiOf n values ≡ choiNumbers n values)
   unfolding normalizedChoi choiNumbers
   values-good w e f = (ap (λ (x : Verdict). firstOf x (choiTested n values)) (sym f ∙ e), ap (λ (x : Verdict). after x (λ _. []) (choiOf n values)) (sym f ∙ e))
+
+  -- a good matrix was computed
+  pub good-choi : Good ≡ normalizedChoi n values → choiOf n values ≡ choiNumbers n values
+  unfolding normalizedChoi
+  good-choi e = values-good Good (both-good _ (choiTested n values) e .0) refl .1
+
+  pub length-choi : length (choiOf n values) ≡ 2 * (4 ^ n * 4 ^ n)
+  unfolding choiOf
+  length-choi = length-build _ _

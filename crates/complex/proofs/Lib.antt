@@ -1,1 +1,2 @@
 mod Magnitudes
+pub mod Bounds

@@ -2,7 +2,7 @@
 use mathlib.Core.Bool.{cond}
 use lib.Ieee as Ieee
 use lib.Ieee.{Float}
-use Rattle.numbers.specs.Number.{_+ᶠ_, _-ᶠ_, _*ᶠ_, _/ᶠ_, abs, max, zeroF, oneF}
+use Rattle.numbers.specs.Number.{number, _+ᶠ_, _-ᶠ_, _*ᶠ_, _/ᶠ_, abs, max, zeroF, oneF}
 use Rattle.root.specs.Root.{sqrt}
 use Rattle.complex.specs.declared.Complex.{Complex}
 
@@ -36,3 +36,21 @@ magnitude z =
     let m = max (abs (z .re)) (abs (z .im)) in
     let q = min (abs (z .re)) (abs (z .im)) /ᶠ m in
     cond (Ieee.eq m zeroF) zeroF (m *ᶠ sqrt (oneF +ᶠ q *ᶠ q))
+
+-- 9/8, 23/16 and 23/8
+abbrev pub nearF : Float
+nearF = number 0x3ff2000000000000
+
+abbrev pub farF : Float
+farF = number 0x3ff7000000000000
+
+abbrev pub twiceFarF : Float
+twiceFarF = number 0x4007000000000000
+
+-- A bound of the magnitude that takes no root: 9/8 of m where s is less than half of it, and 23/16 of m else. That it is one is proved in proofs/Bounds.antt.
+-- Both sides of the test are rounded; where that hides that s is less, the bound is the larger of the two.
+unfoldable pub bound : Complex → Float
+bound z =
+    let m = max (abs (z .re)) (abs (z .im)) in
+    let s = min (abs (z .re)) (abs (z .im)) in
+    cond (Ieee.lt (s *ᶠ twiceFarF) (m *ᶠ farF)) (m *ᶠ nearF) (m *ᶠ farF)

@@ -1,6 +1,6 @@
 // Complex numbers, by value.
 ghost use mathlib.Core.Path.{_≡_};
-ghost use Rattle.complex.specs.Arithmetic.{plus, minus, times, scaled, divided, conjugate, min, magnitude};
+ghost use Rattle.complex.specs.Arithmetic.{plus, minus, times, scaled, divided, conjugate, min, magnitude, bound};
 
 pub struct Complex {
     pub re: f64,
@@ -89,6 +89,20 @@ impl Complex {
             return 0.0;
         }
         let q = min_of(a, b) / m;
-        m * root::sqrt(1.0 + q * q)
+        m * root::sqrt_from_one(1.0 + q * q)
+    }
+
+    // What the magnitude is at most. It costs a small part of it.
+    pub fn bound(self) -> f64
+        ensures { λ r. ⌜ r ≡ bound self ⌝ }
+    {
+        let a = numbers::abs_of(self.re);
+        let b = numbers::abs_of(self.im);
+        let m = numbers::max_of(a, b);
+        let far = m * 1.4375;
+        if min_of(a, b) * 2.875 < far {
+            return m * 1.125;
+        }
+        far
     }
 }

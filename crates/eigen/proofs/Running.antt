@@ -2,13 +2,12 @@
 use mathlib.Core.Path.{_≡_, refl, sym, _∙_, ap, ap₂, subst}
 use mathlib.Core.Bool.{Bool, true, false}
 use mathlib.Core.List.{List, [], _∷_}
-use Prim.Native.Nat.{ℕ, zero, suc, _+_, _-_, _*_, _<_, _≤_}
+use Prim.Native.Nat.{ℕ, zero, suc, _-_, _*_, _<_, _≤_}
 use native.Mathlib.Nat.{mul-le-mul, mul-le-mul-right}
 use native.Mathlib.Omega.{arith}
-use lib.ListN.{length, getD, set, take}
-use lib.Seq.{take-length}
+use lib.ListN.{length, getD}
 use Rattle.lists.specs.Build.{build}
-use Rattle.numbers.specs.Slice.{at}
+use Rattle.lists.proofs.Filling.{Filled, fill-all}
 use Rattle.sorting.specs.Sort.{orderOf, sorted}
 use Rattle.sorting.proofs.Ordered.{order-below}
 use lib.Ieee.{Float, le}
@@ -18,7 +17,6 @@ use Rattle.magnitudes.specs.declared.Pivot.{Pivot}
 use Rattle.magnitudes.specs.Pivot.{pivotOf, scaleOf}
 use Rattle.magnitudes.specs.Notes.{Notes, Kept, measured, renoted}
 use Rattle.magnitudes.proofs.Keeping.{Long, kept-turn, pivot-within, kept-first}
-use Rattle.entries.specs.Laid.{laid}
 use Rattle.turns.specs.declared.Turn.{Turn}
 use Rattle.turns.specs.Rotation.{turnOf, turned, columnsTurned}
 use Rattle.turns.proofs.Whole.{same-outside}
@@ -66,34 +64,26 @@ found-within n a g h e = rw e (pivot-within n a h)
 pub stepped : (r n : ℕ) (g : Pivot) (t : Turn) (a v b u : List Complex) (w x y : Notes) → t ≡ turnOf n a g → b ≡ turned n t a → u ≡ columnsTurned r n t v → x ≡ renoted n b (g .p) w → y ≡ renoted n b (g .q) x → Stepped r n g a v w b u y
 stepped r n g t a v b u w x y e f h i j = record { matrix = rw e at f; vectors = rw e at h; notes = rw i at j }
 
-pub kept-measured : (n : ℕ) (a : List Complex) (w : Notes) → w ≡ measured n a → Kept n a w
-kept-measured n a w e = subst (λ (w : Notes). Kept n a w) (sym e) (kept-first n a)
+pub kept-measured : (n : ℕ) (a : List Complex) (w x : Notes) → Long n w → x ≡ measured n a w → Kept n a x
+kept-measured n a w x l e = subst (λ (x : Notes). Kept n a x) (sym e) (kept-first n a w l)
 
 -- the limit of a run is by the scale of its matrix
 pub by-scale : (k r n : ℕ) (tolerance s : Float) (a v : List Complex) (x : Turns) → s ≡ scaleOf n a → x ≡ jacobi k r n (tolerance *ᶠ s) a v → x ≡ jacobi k r n (tolerance *ᶠ scaleOf n a) a v
 by-scale k r n tolerance s a v x e h = rw e at h
 
--- an entry is laid
-pub put-laid : (n : ℕ) (f : ℕ → ℕ → Complex) (i j : ℕ) (e d : List Complex) (z : Complex) → d ≡ set e (i * n + j) z → z ≡ f i j → d ≡ laid n f i j e
-put-laid n f i j e d z h g = rw g at h
+-- a slice that a loop filled
+pub filled-all : (f : ℕ → Float) (d : List Float) (i m : ℕ) (out : List Float) → i ≡ length d → length d ≡ m → Filled f d i out → out ≡ build m f
+filled-all f d i m out h e p = fill-all f d i out h p ∙ ap (λ (m : ℕ). build m f) e
 
 -- ---- sorted values
 
-pub whole-order : (d : List Float) (n : ℕ) (l : List ℕ) → length l ≡ n → take n l ≡ orderOf d n → l ≡ orderOf d n
-whole-order d n l h e = sym (take-all l n h) ∙ e
-  where
-    take-all : (l : List ℕ) (n : ℕ) → length l ≡ n → take n l ≡ l
-    take-all l n h = rw (← h) (take-length l)
-
-pub order-in : (d : List Float) (n m : ℕ) (l : List ℕ) → length d ≡ n → m ≡ n → l ≡ orderOf d n → (k : ℕ) → k < m → getD l k 0 < length d
-order-in d n m l h g e k u = rw (e, h) (order-below d n k (omega arith))
-
-pub sorted-is : (d x : List Float) (n m : ℕ) (l : List ℕ) → length d ≡ n → m ≡ n → l ≡ orderOf d n → x ≡ build m (λ k. at d (getD l k 0)) → x ≡ sorted d
-unfolding sorted
-sorted-is d x n m l h g e s = rw h (rw (g, e) at s)
-
 pub order-under : (d : List Float) (n : ℕ) (l : List ℕ) → l ≡ orderOf d n → (k : ℕ) → k < n → getD l k 0 < n
-order-under d n l e k u = rw e (order-below d n k u)
+order-under d n l e k u = rw e (order-below false d n k u)
+
+-- the numbers of the diagonal, arranged
+pub ascends : (n : ℕ) (a : List Complex) (d : List Float) (l : List ℕ) (w : List Float) → length d ≡ n → d ≡ diagonal n a → (l ≡ orderOf d (length d)) × (w ≡ sorted d)
+    → (l ≡ orderOf (diagonal n a) n) × (w ≡ sorted (diagonal n a))
+ascends n a d l w h e s = (s .0 ∙ rw (h, e), s .1 ∙ ap sorted e)
 
 -- ---- the whole
 

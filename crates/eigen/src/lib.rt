@@ -1,10 +1,8 @@
 // Eigenvalues and eigenvectors of a Hermitian matrix by classical Jacobi.
 ghost use mathlib.Core.Path.{_≡_};
 ghost use Prim.Native.Nat.{ℕ, _*_, _≤_, _<_};
-ghost use Rattle.lists.specs.Build.{build};
 ghost use lib.ListN.{length, getD};
 ghost use Rattle.numbers.specs.Number.{_*ᶠ_};
-ghost use Rattle.numbers.specs.Slice.{at};
 ghost use Rattle.entries.specs.Entries.{entries, entryAt};
 ghost use Rattle.entries.specs.Laid.{laidRow};
 ghost use Rattle.magnitudes.specs.Pivot.{scaleOf};
@@ -52,7 +50,7 @@ fn run(
     ensures { λ b. ⌜ spec.ran b (entries (now (a .exit))) (entries (now (v .exit))) ≡ spec.jacobi rotations r n (tolerance *ᶠ scaleOf n (entries (now (a .entry)))) (entries (now (a .entry))) (entries (now (v .entry))) ⌝ }
 {
     magnitudes::measure(a, n, bounds, sizes);
-    let limit = tolerance * magnitudes::scale(sizes);
+    let limit = tolerance * magnitudes::scale(a, n);
     let mut left = rotations;
     while 0 < left {
         let g = magnitudes::find(a, n, bounds, sizes);
@@ -103,18 +101,6 @@ fn diagonal(a: &[f64], n: usize, d: &mut [f64])
     }
 }
 
-// The numbers of d in this order.
-fn values(d: &[f64], order: &[usize], w: &mut [f64])
-    requires { ⌜ (length (now w) ≤ length (now order)) × ((k : ℕ) → k < length (now w) → getD (now order) k 0 < length (now d)) ⌝ }
-    ensures { λ _. ⌜ now (w .exit) ≡ build (length (now (w .entry))) (λ k. at (now (d .entry)) (getD (now (order .entry)) k 0)) ⌝ }
-{
-    let n = w.len();
-    for k in 0..n {
-        let i = order[k];
-        w[k] = d[i];
-    }
-}
-
 // Row i of v with its columns in this order, into row i of a.
 fn columns_row(v: &[f64], order: &[usize], n: usize, i: usize, a: &mut [f64])
     requires { ⌜ (length (now a) ≡ 2 * (n * n)) × (length (now v) ≡ 2 * (n * n)) × (n ≤ length (now order)) × (i < n) × ((k : ℕ) → k < n → getD (now order) k 0 < n) ⌝ }
@@ -142,8 +128,7 @@ fn ascend(a: &[f64], n: usize, d: &mut [f64], order: &mut [usize], w: &mut [f64]
     ensures { λ _. ⌜ (now (order .exit) ≡ orderOf (spec.diagonal n (entries (now (a .entry)))) n) × (now (w .exit) ≡ sorted (spec.diagonal n (entries (now (a .entry))))) ⌝ }
 {
     diagonal(a, n, d);
-    sorting::sort(d, n, order);
-    values(d, order, w);
+    sorting::arrange(false, d, order, w);
 }
 
 // The eigenvalues on the diagonal of a, ascending, into w, and the vectors of v in their order, into a.

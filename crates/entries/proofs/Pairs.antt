@@ -1,5 +1,5 @@
 -- Entries as pairs of numbers: how many there are, one that is read, one that is stored. Assumes nothing.
-use mathlib.Core.Path.{_≡_, refl, _∙_, ap}
+use mathlib.Core.Path.{_≡_, refl, sym, _∙_, ap}
 use mathlib.Core.List.{List, [], _∷_}
 use Prim.Native.Nat.{ℕ, zero, suc, _+_, _*_, _<_}
 use native.Mathlib.Nat.{mul-suc}
@@ -8,7 +8,7 @@ use native.Mathlib.Omega.{arith}
 use lib.ListN.{length, getD, set}
 use lib.Ieee.{Float, nan}
 use Rattle.complex.specs.declared.Complex.{Complex}
-use Rattle.entries.specs.Entries.{entries, nowhere}
+use Rattle.entries.specs.Entries.{entries, partsOf, nowhere}
 
 twice : ℕ → ℕ
 twice zero = zero
@@ -52,3 +52,23 @@ set-entry l k z h = rw (add-one, twice-is) (go l k (omega (arith, twice-is k)))
     go (x ∷ []) (suc k) h = absurd (omega arith)
     go (x ∷ y ∷ l) zero h = refl
     go (x ∷ y ∷ l) (suc k) h = ap (λ (t : List Complex). record { re = x; im = y } ∷ t) (go l k (omega arith))
+
+-- the numbers are the parts of their entries
+pub parts-are : (m : ℕ) (l : List Float) (e : List Complex) → length l ≡ 2 * m → entries l ≡ e → l ≡ partsOf e
+unfolding entries twice partsOf
+parts-are m l e h f = go m l (h ∙ twice-is m) ∙ ap partsOf f
+  where
+    go : (m : ℕ) (l : List Float) → length l ≡ twice m → l ≡ partsOf (entries l)
+    go zero [] h = refl
+    go zero (x ∷ l) h = absurd (omega arith)
+    go (suc m) [] h = absurd (omega arith)
+    go (suc m) (x ∷ []) h = absurd (omega arith)
+    go (suc m) (x ∷ y ∷ l) h = ap (λ (t : List Float). x ∷ y ∷ t) (go m l (omega arith))
+
+pub length-parts : (e : List Complex) → length (partsOf e) ≡ 2 * length e
+unfolding partsOf twice
+length-parts e = go e ∙ sym (twice-is (length e))
+  where
+    go : (e : List Complex) → length (partsOf e) ≡ twice (length e)
+    go [] = refl
+    go (z ∷ l) = ap (λ (k : ℕ). suc (suc k)) (go l)

@@ -15,6 +15,11 @@ entries [] = []
 entries (x ∷ []) = []
 entries (x ∷ y ∷ l) = record { re = x; im = y } ∷ entries l
 
+-- the numbers of a list of entries: the parts of each, one after the other
+unfoldable pub partsOf : List Complex → List Float
+partsOf [] = []
+partsOf (z ∷ l) = z .re ∷ z .im ∷ partsOf l
+
 -- entry (i, j) of a matrix with n columns
 abbrev pub entryAt : ℕ → List Complex → ℕ → ℕ → Complex
 entryAt n a i j = getD a (i * n + j) nowhere

@@ -1,6 +1,7 @@
 // The entry points for C and Rust: numbers and slices only. include/mintshuttle.h says the same in C's terms.
 use card::Reading;
 use outcome::Answer;
+use outcome::bit_of;
 use refusal::Refusal;
 ghost use mathlib.Core.Path.{_≡_};
 ghost use mathlib.Core.List.{_∷_, [], _++_};
@@ -11,19 +12,20 @@ ghost use Rattle.numbers.specs.Slice.{at};
 ghost use Rattle.root.specs.Root.{sqrt};
 ghost use Rattle.logarithm.specs.Steps.{ln, lnBy, entriesOf};
 ghost use Rattle.refusal.specs.Values.{codeOf};
-ghost use Rattle.library.specs.Entries.{probesEntry, settingEntry, applyEntry};
+ghost use Rattle.outcome.specs.Outcome.{bitOf};
+ghost use Rattle.library.specs.Entries.{probesEntry, settingEntry, applyEntry, choiEntry};
 ghost use Rattle.tomography.specs.Sheet.{sheetOf};
 ghost use Rattle.exports.specs.Exported.{headerWords, refusalWords, answerWords, answerCode, readingWords, readingCode, Exported, ReadExported, Mapped};
 
-fn put(out: &mut [u64], a: u64, b: u64, c: u64, d: u64)
+fn put(out: &mut [u64], a: u64, b: u64, c: u64, d: u64, e: u64)
     requires { ⌜ 5 ≤ length (now out) ⌝ }
-    ensures { λ _. ⌜ now (out .exit) ≡ over (a ∷ b ∷ c ∷ d ∷ 0 ∷ []) (now (out .entry)) ⌝ }
+    ensures { λ _. ⌜ now (out .exit) ≡ over (a ∷ b ∷ c ∷ d ∷ e ∷ []) (now (out .entry)) ⌝ }
 {
     out[0] = a;
     out[1] = b;
     out[2] = c;
     out[3] = d;
-    out[4] = 0;
+    out[4] = e;
 }
 
 fn put_refusal(r: Refusal, out: &mut [u64]) -> u64
@@ -31,16 +33,25 @@ fn put_refusal(r: Refusal, out: &mut [u64]) -> u64
     ensures { λ n. ⌜ (n ≡ codeOf r) × (now (out .exit) ≡ over (refusalWords r) (now (out .entry))) ⌝ }
 {
     let n = refusal::code(r);
-    put(out, 0, n, refusal::value_a(r), refusal::value_b(r));
+    put(out, 0, n, refusal::value_a(r), refusal::value_b(r), 0);
     n
 }
 
-fn put_header(kind: u64, number: u64, out: &mut [u64]) -> u64
+// A header of up to four numbers.
+fn put_header(kind: u64, a: u64, b: u64, c: u64, d: u64, out: &mut [u64]) -> u64
     requires { ⌜ 5 ≤ length (now out) ⌝ }
-    ensures { λ n. ⌜ (n ≡ 0) × (now (out .exit) ≡ over (headerWords kind number) (now (out .entry))) ⌝ }
+    ensures { λ n. ⌜ (n ≡ 0) × (now (out .exit) ≡ over (headerWords kind a b c d) (now (out .entry))) ⌝ }
 {
-    put(out, kind, number, 0, 0);
+    put(out, kind, a, b, c, d);
     0
+}
+
+// `physical T U C`.
+fn put_tests(t: bool, u: bool, c: bool, out: &mut [u64]) -> u64
+    requires { ⌜ 5 ≤ length (now out) ⌝ }
+    ensures { λ n. ⌜ (n ≡ 0) × (now (out .exit) ≡ over (headerWords 4 (bitOf t) (bitOf u) (bitOf c) 0) (now (out .entry))) ⌝ }
+{
+    put_header(4, bit_of(t), bit_of(u), bit_of(c), 0, out)
 }
 
 fn put_answer(a: Answer, out: &mut [u64]) -> u64
@@ -48,12 +59,20 @@ fn put_answer(a: Answer, out: &mut [u64]) -> u64
     ensures { λ n. ⌜ (n ≡ answerCode a) × (now (out .exit) ≡ over (answerWords a) (now (out .entry))) ⌝ }
 {
     match a {
-        Answer::Density { dimension } => put_header(1, dimension, out),
-        Answer::Process { size } => put_header(3, size, out),
-        Answer::Model { words } => put_header(6, words, out),
-        Answer::Probes { count } => put_header(8, count, out),
-        Answer::Setting { qubits } => put_header(9, qubits, out),
-        Answer::Applied { size } => put_header(10, size, out),
+        Answer::Density { dimension } => put_header(1, dimension, 0, 0, 0, out),
+        Answer::Projected { dimension } => put_header(2, dimension, 0, 0, 0, out),
+        Answer::Process { size } => put_header(3, size, 0, 0, 0, out),
+        Answer::Physical {
+            trace_preserving,
+            unital,
+            completely_positive,
+        } => put_tests(trace_preserving, unital, completely_positive, out),
+        Answer::Model { words } => put_header(6, words, 0, 0, 0, out),
+        Answer::Diagnostics => put_header(7, 0, 0, 0, 0, out),
+        Answer::Probes { count } => put_header(8, count, 0, 0, 0, out),
+        Answer::Setting { qubits } => put_header(9, qubits, 0, 0, 0, out),
+        Answer::Applied { size } => put_header(10, size, 0, 0, 0, out),
+        Answer::Choi { dimension } => put_header(11, dimension, 0, 0, 0, out),
         Answer::Refused(r) => put_refusal(r, out),
     }
 }
@@ -65,7 +84,7 @@ fn put_reading(a: Reading, out: &mut [u64]) -> u64
     match a {
         Reading::Accepted(h) => {
             let kind = h.kind;
-            put_header(kind as u64, 0, out)
+            put_header(kind as u64, 0, 0, 0, 0, out)
         }
         Reading::Refused(r) => put_refusal(r, out),
     }
@@ -143,6 +162,25 @@ pub extern "C" fn mintshuttle_apply<'a>(
         return 16;
     }
     let a = library::apply_expectations(n, values, input, result, work);
+    put_answer(a, answer)
+}
+
+// The normalized Choi matrix of a transfer matrix of 4^n by 4^n values.
+#[no_mangle]
+pub extern "C" fn mintshuttle_choi(
+    n: u64,
+    values: &[f64],
+    result: &mut [u64],
+    work: &mut [f64],
+    answer: &mut [u64],
+) -> u64
+    ensures { λ r. ⌜ Exported (choiEntry n (now (values .entry))) (now (result .entry)) (now (result .exit)) (now (work .entry)) (now (work .exit)) (now (answer .entry)) (now (answer .exit)) r ⌝ }
+{
+    if answer.len() < 5 {
+        numbers::clear(work);
+        return 16;
+    }
+    let a = library::normalized_choi(n, values, result, work);
     put_answer(a, answer)
 }
 

@@ -1,14 +1,16 @@
 -- The verdicts of the library's entries, and their outcomes carried from a call to its caller. Assumes nothing.
-use Prim.Native.Nat.{ℕ, zero, suc, _^_, _≤_, _<_}
+use Prim.Native.Nat.{ℕ, _*_, _^_, _≤_, _<_}
 use mathlib.Core.Bool.{Bool, true, false, cond}
 use mathlib.Core.Path.{_≡_, refl, sym, ap, subst, _∙_}
 use mathlib.Core.List.{List, [], _++_}
+use native.Mathlib.Nat.{pos-of-ne-zero}
 use native.Mathlib.Omega.{arith}
-use borrow.Author.Tests.{eq-eqb, ne-eqb, lt-ltb, le-ltb, ltb-false, le-leb, lt-leb, leb-false}
-use lib.Dec.{eqb, leb, ltb, lit≤}
+use borrow.Author.Tests.{eq-eqb, ne-eqb, lt-ltb, le-ltb, ltb-false, eqb-false, le-leb, lt-leb, leb-false}
+use lib.Dec.{eqb, leb, ltb}
 use lib.ListN.{length, drop}
 use lib.Ieee.{Float}
 use Rattle.lists.proofs.Choices.{yes, no}
+use Rattle.sizes.proofs.Small.{square-most, four-most}
 use Rattle.booleans.proofs.Joined.{or-left, or-right, or-no, neither}
 use Rattle.refusal.specs.declared.Refusal.{Refusal}
 use Rattle.refusal.specs.declared.Refusal.the-variants.{InvalidQubits, InvalidCard}
@@ -19,11 +21,13 @@ use Rattle.refusal.proofs.Verdicts.{never-good, both-good}
 use Rattle.matrix.specs.Product.{matVecOf}
 use Rattle.transfer.specs.Apply.{appliedOf, appliedNumbers}
 use Rattle.transfer.proofs.Applied.{good-numbers}
+use Rattle.choi.specs.Choi.{choiOf, normalizedChoi, choiNumbers}
+use Rattle.choi.proofs.Values.{good-choi}
 use Rattle.outcome.specs.declared.Answer.{Answer}
 use Rattle.outcome.specs.declared.Answer.the-variants as told
 use Rattle.outcome.specs.Outcome.{shown, Gives, roomy, inRoom}
 use Rattle.outcome.proofs.Outcomes.{stays, same-outcome, not-shown, is-shown, housed}
-use Rattle.library.specs.Entries.{qubitsOf, settingVerdict, applyVerdict, applyNumbers}
+use Rattle.library.specs.Entries.{qubitsOf, settingVerdict, applyVerdict, applyNumbers, choiVerdict, choiLeft}
 
 -- a test that refuses did not, where the verdict is good
 good-cond : (b : Bool) (r : Refusal) → Good ≡ cond b (Refused r) Good → b ≡ false
@@ -44,6 +48,10 @@ module _ (most n : ℕ) where
   pub in-range : (n ≡ 0 → ⊥) → n ≤ most → Good ≡ qubitsOf most n
   unfolding qubitsOf
   in-range h k = no (Refused InvalidQubits) (or-no (eqb n 0) (ltb most n) (ne-eqb n 0 h) (le-ltb most n k)) refl
+
+  pub some : Good ≡ qubitsOf most n → 1 ≤ n
+  unfolding qubitsOf
+  some e = pos-of-ne-zero (eqb-false n 0 (neither (eqb n 0) (ltb most n) (good-cond _ _ e) .0))
 
   pub few : Good ≡ qubitsOf most n → n ≤ most
   unfolding qubitsOf
@@ -82,37 +90,66 @@ module _ (n index : ℕ) where
       let b = both-good (qubitsOf 3 n) (cond (leb (3 ^ n) index) (Refused (InvalidCard index)) Good) e in
       (few 3 n (b .0), leb-false (3 ^ n) index (good-cond _ _ (b .1)))
 
--- ---- a transfer matrix applied
+-- ---- transfer matrices
 
 pub size-two : (n p : ℕ) → n ≤ 2 → p ≡ 4 ^ n → p ≤ 16
-size-two n p h e = subst (λ (k : ℕ). k ≤ 16) (sym e) (small n h)
-  where
-    small : (n : ℕ) → n ≤ 2 → 4 ^ n ≤ 16
-    small zero h = lit≤ tt
-    small (suc zero) h = lit≤ tt
-    small (suc (suc zero)) h = lit≤ tt
-    small (suc (suc (suc n))) h = absurd (omega arith)
+size-two n p h e = omega (arith, four-most n h, e)
+
+pub parts-two : (n : ℕ) → n ≤ 2 → 2 * (4 ^ n * 4 ^ n) ≤ 512
+parts-two n h = omega (arith, square-most (4 ^ n) (four-most n h))
+
+-- the number of qubits is tested first: v is the verdict that follows, and the numbers are what is computed then
+first-few : (most n : ℕ) (v : Verdict) → Good ≡ firstOf (qubitsOf most n) v → n ≤ most
+first-few most n v e = few most n (both-good (qubitsOf most n) v e .0)
+
+module _ (most n : ℕ) (v : Verdict) (numbers : List Float) where
+  first-refused : (w : Verdict) (r : Refusal) → w ≡ qubitsOf most n → w ≡ Refused r → (Refused r ≡ firstOf (qubitsOf most n) v) × ([] ≡ after (qubitsOf most n) (λ _. []) numbers)
+  first-refused w r e f = (ap (λ (x : Verdict). firstOf x v) (sym f ∙ e), ap (λ (x : Verdict). after x (λ _. []) numbers) (sym f ∙ e))
+
+  goes-on : Good ≡ qubitsOf most n → (v ≡ firstOf (qubitsOf most n) v) × (numbers ≡ after (qubitsOf most n) (λ _. []) numbers)
+  goes-on g = (ap (λ (x : Verdict). firstOf x v) g, ap (λ (x : Verdict). after x (λ _. []) numbers) g)
+
+  computed : (shown : List Float) → (Good ≡ v → shown ≡ numbers) → Good ≡ firstOf (qubitsOf most n) v → shown ≡ after (qubitsOf most n) (λ _. []) numbers
+  computed shown f e =
+      let b = both-good (qubitsOf most n) v e in
+      f (b .1) ∙ goes-on (b .0) .1
+
+-- ---- a transfer matrix applied
 
 module _ (n : ℕ) (values input : List Float) where
   pub apply-refused : (w : Verdict) (r : Refusal) → w ≡ qubitsOf 2 n → w ≡ Refused r → (Refused r ≡ applyVerdict n values input) × ([] ≡ applyNumbers n values input)
   unfolding applyVerdict applyNumbers
-  apply-refused w r e f =
-      let g = sym f ∙ e in
-      (ap (λ (x : Verdict). firstOf x (appliedOf (4 ^ n) values input)) g, ap (λ (x : Verdict). after x (λ _. []) (appliedNumbers (4 ^ n) values input)) g)
+  apply-refused = first-refused 2 n (appliedOf (4 ^ n) values input) (appliedNumbers (4 ^ n) values input)
 
   pub apply-goes-on : (p : ℕ) → Good ≡ qubitsOf 2 n → p ≡ 4 ^ n → (appliedOf p values input ≡ applyVerdict n values input) × (appliedNumbers p values input ≡ applyNumbers n values input)
   unfolding applyVerdict applyNumbers
-  apply-goes-on p g e = (
-    ap (λ (k : ℕ). appliedOf k values input) e ∙ ap (λ (x : Verdict). firstOf x (appliedOf (4 ^ n) values input)) g,
-    ap (λ (k : ℕ). appliedNumbers k values input) e ∙ ap (λ (x : Verdict). after x (λ _. []) (appliedNumbers (4 ^ n) values input)) g,
-  )
+  apply-goes-on p g e =
+      let o = goes-on 2 n (appliedOf (4 ^ n) values input) (appliedNumbers (4 ^ n) values input) g in
+      (ap (λ (k : ℕ). appliedOf k values input) e ∙ o .0, ap (λ (k : ℕ). appliedNumbers k values input) e ∙ o .1)
 
   pub apply-few : Good ≡ applyVerdict n values input → n ≤ 2
   unfolding applyVerdict
-  apply-few e = few 2 n (both-good (qubitsOf 2 n) (appliedOf (4 ^ n) values input) e .0)
+  apply-few = first-few 2 n (appliedOf (4 ^ n) values input)
 
   pub apply-numbers : Good ≡ applyVerdict n values input → matVecOf (4 ^ n) values input ≡ applyNumbers n values input
-  unfolding applyVerdict
-  apply-numbers e =
-      let b = both-good (qubitsOf 2 n) (appliedOf (4 ^ n) values input) e in
-      good-numbers (4 ^ n) values input (b .1) ∙ apply-goes-on (4 ^ n) (b .0) refl .1
+  unfolding applyVerdict applyNumbers
+  apply-numbers = computed 2 n (appliedOf (4 ^ n) values input) (appliedNumbers (4 ^ n) values input) (matVecOf (4 ^ n) values input) (good-numbers (4 ^ n) values input)
+
+-- ---- a Choi matrix
+
+module _ (n : ℕ) (values : List Float) where
+  pub choi-refused : (w : Verdict) (r : Refusal) → w ≡ qubitsOf 2 n → w ≡ Refused r → (Refused r ≡ choiVerdict n values) × ([] ≡ choiLeft n values)
+  unfolding choiVerdict choiLeft
+  choi-refused = first-refused 2 n (normalizedChoi n values) (choiNumbers n values)
+
+  pub choi-goes-on : Good ≡ qubitsOf 2 n → (normalizedChoi n values ≡ choiVerdict n values) × (choiNumbers n values ≡ choiLeft n values)
+  unfolding choiVerdict choiLeft
+  choi-goes-on = goes-on 2 n (normalizedChoi n values) (choiNumbers n values)
+
+  pub choi-few : Good ≡ choiVerdict n values → n ≤ 2
+  unfolding choiVerdict
+  choi-few = first-few 2 n (normalizedChoi n values)
+
+  pub choi-numbers : Good ≡ choiVerdict n values → choiOf n values ≡ choiLeft n values
+  unfolding choiVerdict choiLeft
+  choi-numbers = computed 2 n (normalizedChoi n values) (choiNumbers n values) (choiOf n values) (good-choi n values)

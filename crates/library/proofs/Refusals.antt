@@ -8,14 +8,15 @@ use borrow.Author.Tests.{eqb-false}
 use lib.Dec.{eqb, leb, ltb}
 use lib.Ieee.{Float}
 use Rattle.numbers.specs.Slice.{wordsOf}
-use Rattle.refusal.specs.declared.Refusal.the-variants.{InvalidQubits, InvalidCard}
+use Rattle.refusal.specs.declared.Refusal.the-variants.{InvalidQubits, Operator, InvalidCard}
 use Rattle.matrix.specs.Product.{matVecOf}
 use Rattle.transfer.specs.Apply.{appliedOf}
+use Rattle.choi.specs.Choi.{choiOf, choiTested, normalizedChoi}
 use Rattle.designs.specs.Probes.{probesOf}
 use Rattle.designs.specs.Settings.{settingOf}
-use Rattle.outcome.specs.declared.Answer.the-variants.{Probes, Setting, Applied}
-use Rattle.outcome.proofs.Refusals.{Sound, Lower, lower-good, lower-refused, lower-either, lower-first, lower-numbers, shown-sound}
-use Rattle.library.specs.Entries.{qubitsOf, settingVerdict, applyVerdict, probesEntry, settingEntry, applyEntry}
+use Rattle.outcome.specs.declared.Answer.the-variants.{Probes, Setting, Applied, Choi}
+use Rattle.outcome.proofs.Refusals.{Sound, Lower, lower-good, lower-refused, lower-either, lower-first, lower-finite, lower-numbers, shown-sound}
+use Rattle.library.specs.Entries.{qubitsOf, settingVerdict, applyVerdict, probesEntry, settingEntry, applyEntry, choiVerdict, choiEntry}
 
 lower-qubits : (most n : ℕ) → Lower (qubitsOf most n)
 unfolding qubitsOf
@@ -40,3 +41,11 @@ lower-apply n values input = lower-first (lower-qubits 2 n) (lower-first (lower-
 pub apply-sound : (n : ℕ) (values input : List Float) → Sound (applyEntry n values input)
 unfolding applyEntry
 apply-sound n values input = shown-sound (applyVerdict n values input) (Applied (4 ^ n)) (wordsOf (4 ^ n) (matVecOf (4 ^ n) values input)) (lower-apply n values input) refl
+
+lower-choi : (n : ℕ) (values : List Float) → Lower (choiVerdict n values)
+unfolding choiVerdict normalizedChoi choiTested
+lower-choi n values = lower-first (lower-qubits 2 n) (lower-first (lower-numbers (4 ^ n * 4 ^ n) values) (lower-finite Operator (choiOf n values) (eqb-false 6 16 refl)))
+
+pub choi-sound : (n : ℕ) (values : List Float) → Sound (choiEntry n values)
+unfolding choiEntry
+choi-sound n values = shown-sound (choiVerdict n values) (Choi (4 ^ n)) (wordsOf (2 * (4 ^ n * 4 ^ n)) (choiOf n values)) (lower-choi n values) refl

@@ -11,9 +11,10 @@ use Rattle.refusal.specs.declared.Verdict.the-variants.{Good, Refused}
 use Rattle.refusal.specs.Verdicts.{firstOf, after}
 use Rattle.matrix.specs.Product.{matVecOf}
 use Rattle.transfer.specs.Apply.{appliedOf, appliedNumbers}
+use Rattle.choi.specs.Choi.{choiOf, normalizedChoi, choiNumbers}
 use Rattle.designs.specs.Probes.{probesOf}
 use Rattle.designs.specs.Settings.{settingOf}
-use Rattle.outcome.specs.declared.Answer.the-variants.{Probes, Setting, Applied}
+use Rattle.outcome.specs.declared.Answer.the-variants.{Probes, Setting, Applied, Choi}
 use Rattle.outcome.specs.Outcome.{Outcome, shown}
 
 -- refusal 1: no qubit, or more than `most`
@@ -40,3 +41,13 @@ applyNumbers n values input = after (qubitsOf 2 n) (λ _. []) (appliedNumbers (4
 
 unfoldable pub applyEntry : ℕ → List Float → List Float → Outcome
 applyEntry n values input = shown (applyVerdict n values input) (Applied (4 ^ n)) (wordsOf (4 ^ n) (matVecOf (4 ^ n) values input))
+
+-- `normalized_choi`: the transfer matrix is made first; the parts of the 4^n by 4^n entries
+unfoldable pub choiVerdict : ℕ → List Float → Verdict
+choiVerdict n values = firstOf (qubitsOf 2 n) (normalizedChoi n values)
+
+unfoldable pub choiLeft : ℕ → List Float → List Float
+choiLeft n values = after (qubitsOf 2 n) (λ _. []) (choiNumbers n values)
+
+unfoldable pub choiEntry : ℕ → List Float → Outcome
+choiEntry n values = shown (choiVerdict n values) (Choi (4 ^ n)) (wordsOf (2 * (4 ^ n * 4 ^ n)) (choiOf n values))

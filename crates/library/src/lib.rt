@@ -4,13 +4,14 @@ use outcome::has_room;
 use refusal::Refusal;
 use refusal::Verdict;
 use sizes::four_to;
+use sizes::square;
 use sizes::three_to;
 ghost use mathlib.Core.Path.{_≡_};
 ghost use Prim.Native.Nat.{_^_, _≤_, _<_};
 ghost use lib.ListN.{length};
 ghost use Rattle.lists.specs.Build.{over};
 ghost use Rattle.outcome.specs.Outcome.{inRoom, Gives, Call};
-ghost use Rattle.library.specs.Entries.{qubitsOf, settingVerdict, applyVerdict, applyNumbers, probesEntry, settingEntry, applyEntry};
+ghost use Rattle.library.specs.Entries.{qubitsOf, settingVerdict, applyVerdict, applyNumbers, probesEntry, settingEntry, applyEntry, choiVerdict, choiLeft, choiEntry};
 
 // n is 1 to `most`.
 fn check_qubits(most: u64, n: u64) -> Verdict
@@ -140,6 +141,46 @@ pub fn apply_expectations<'a>(
     ensures { λ r. ⌜ Call (applyEntry n (now (values .entry)) (now (input .entry))) (now (result .entry)) (now (result .exit)) (now (work .entry)) (now (work .exit)) r ⌝ }
 {
     let answer = apply(n, values, input, result, work);
+    numbers::clear(work);
+    answer
+}
+
+// The Choi matrix goes to the front of the work slice.
+fn choi_within(n: u64, values: &[f64], work: &mut [f64]) -> Verdict
+    requires { ⌜ 8192 ≤ length (now work) ⌝ }
+    ensures { λ v. ⌜ (v ≡ choiVerdict n (now (values .entry))) × (now (work .exit) ≡ over (choiLeft n (now (values .entry))) (now (work .entry))) ⌝ }
+{
+    let found = check_qubits(2, n);
+    match found {
+        Verdict::Refused(r) => Verdict::Refused(r),
+        Verdict::Good => choi::normalized_choi(n as usize, values, work),
+    }
+}
+
+fn choi_matrix(n: u64, values: &[f64], result: &mut [u64], work: &mut [f64]) -> Answer
+    ensures { λ r. ⌜ Gives (inRoom (now (result .entry)) (now (work .entry)) (choiEntry n (now (values .entry)))) (now (result .entry)) (now (result .exit)) r ⌝ }
+{
+    if !has_room(result, work) {
+        return Answer::Refused(Refusal::ShortBuffer);
+    }
+    let found = choi_within(n, values, work);
+    match found {
+        Verdict::Refused(r) => Answer::Refused(r),
+        Verdict::Good => {
+            let p = four_to(n as usize);
+            numbers::emit(work, 2 * square(p), result);
+            Answer::Choi {
+                dimension: p as u64,
+            }
+        }
+    }
+}
+
+// The normalized Choi matrix of a transfer matrix of 4^n by 4^n values, by rows: real and imaginary part of each entry.
+pub fn normalized_choi(n: u64, values: &[f64], result: &mut [u64], work: &mut [f64]) -> Answer
+    ensures { λ r. ⌜ Call (choiEntry n (now (values .entry))) (now (result .entry)) (now (result .exit)) (now (work .entry)) (now (work .exit)) r ⌝ }
+{
+    let answer = choi_matrix(n, values, result, work);
     numbers::clear(work);
     answer
 }

@@ -1,13 +1,15 @@
 -- Lists joined one after the other, and the loops that write them so. Assumes nothing.
-use mathlib.Core.Path.{_≡_, refl, _∙_, ap}
+use mathlib.Core.Path.{_≡_, refl, _∙_}
 use mathlib.Core.List.{List, [], _++_, append-assoc, append-nil}
+use mathlib.Core.Logic.{⊎-elim}
 use Prim.Native.Nat.{ℕ, zero, suc, _+_, _-_, _*_, _<_}
-use native.Mathlib.Nat.{suc-mul, zero-mul}
+use native.Mathlib.Nat.{suc-mul, zero-mul, not-suc-le-zero, eq-or-lt-of-le, le-of-suc-le-suc}
 use native.Mathlib.Numerals.{add-one}
 use native.Mathlib.Omega.{arith}
 use lib.ListN.{length, take, drop, length-append, length-drop, drop-of-length-le}
 use lib.Seq.{take-all, take-at, drop-at, drop-drop}
 use Rattle.lists.specs.Build.{over, joined}
+use Rattle.lists.specs.Part.{part}
 
 module _ {A : Type 0} where
   -- all of a list from p on, as it is lent, and what is beyond it
@@ -32,6 +34,15 @@ module _ {A : Type 0} where
       let b : length (f n) ≡ w = h n (omega arith) in
       omega (arith, length-append (joined n f) (f n), suc-mul n w)
 
+  -- one of them, whatever follows
+  pub part-joined : (n w i : ℕ) (f : ℕ → List A) (r : List A) → ((j : ℕ) → length (f j) ≡ w) → i < n → part (i * w) w (joined n f ++ r) ≡ f i
+  unfolding joined
+  part-joined zero w i f r h l = absurd (not-suc-le-zero l)
+  part-joined (suc n) w i f r h l = rw append-assoc (⊎-elim last (λ (q : i < n). part-joined n w i f (f n ++ r) h q) (eq-or-lt-of-le (le-of-suc-le-suc l)))
+    where
+      last : i ≡ n → part (i * w) w (joined n f ++ (f n ++ r)) ≡ f i
+      last q = rw (q, drop-at (joined n f) (f n ++ r) (n * w) (length-joined n w f (λ j _. h j)), take-at (f n) r w (h n))
+
   -- a loop that writes them: what stands in l after i turns
   abbrev pub Written : (ℕ → List A) → List A → ℕ → List A → Type 0
   Written f l i out = out ≡ over (joined i f) l
@@ -44,6 +55,14 @@ module _ {A : Type 0} where
       → Written f l (i + 1) (take p out ++ (ys ++ drop (e - p) (drop p out)))
   unfolding joined
   written-more f l i p e out x ys k h o g y = over-onto (joined i f) x l p e out ys k h o y ∙ rw (add-one, g)
+
+  -- the same, where only the place of list i was lent, `p..e`
+  pub written-part : (f : ℕ → List A) (l : List A) (i w p e : ℕ) (out ys : List A) → length (joined i f) ≡ p → e ≡ p + w → length (f i) ≡ w → Written f l i out → ys ≡ f i
+      → Written f l (i + 1) (take p out ++ (ys ++ drop (e - p) (drop p out)))
+  unfolding joined
+  written-part f l i w p e out ys k h g o y =
+      let q : e - p ≡ w = omega arith in
+      rw (q, y, o, take-at (joined i f) (drop (length (joined i f)) l) p k, drop-at (joined i f) (drop (length (joined i f)) l) p k, drop-drop, add-one, length-append, g, append-assoc)
 
   pub written-end : (f : ℕ → List A) (l : List A) (i n : ℕ) (out : List A) → i ≡ n → Written f l i out → Written f l n out
   written-end f l i n out h o = rw (← h) o

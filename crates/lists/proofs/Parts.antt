@@ -2,7 +2,7 @@
 use mathlib.Core.Path.{_≡_, sym, _∙_, ap, ap₂}
 use mathlib.Core.List.{List, _++_}
 use Prim.Native.Nat.{ℕ, suc, _+_, _-_, _*_, _/_, _%_, _≤_, _<_}
-use native.Mathlib.Nat.{suc-mul, mul-le-mul-right, mul-add-div-right, mul-add-mod-self-right, div-eq-of-lt, mod-eq-of-lt, add-zero}
+use native.Mathlib.Nat.{le-refl, suc-mul, mul-le-mul-right, mul-add-div-right, mul-add-mod-self-right, div-eq-of-lt, mod-eq-of-lt, add-zero}
 use native.Mathlib.Omega.{arith}
 use lib.ListN.{length, take, drop, length-take, length-drop, length-append}
 use lib.Seq.{take-at, drop-at, length-take-le}
@@ -98,6 +98,9 @@ row-fits i n w m h k =
     let p : suc i * w ≤ n * w = mul-le-mul-right w h in
     let q : suc i * w ≡ i * w + w = suc-mul i w in
     omega arith
+
+pub row-in : (i n w : ℕ) → i < n → i * w + w ≤ n * w
+row-in i n w h = row-fits i n w (n * w) h (le-refl (n * w))
 
 -- entry j of row i lies within r rows of n
 pub entry-fits : (i j r n : ℕ) → i < r → j < n → i * n + j < r * n

@@ -9,37 +9,35 @@ use native.Mathlib.Nat.{eq-or-lt-of-le, le-of-suc-le-suc}
 use lib.Dec.{eqb, ltb}
 use lib.ListN.{length, getD, set, length-set}
 use lib.Seq.{getD-set-same, getD-set-other}
-use lib.Ieee.{Float, nan, lt, le}
+use lib.Ieee.{Float, nan, inf, fin, lt, le, neg, isNan, ofBits}
 use borrow.Author.Tests.{lt-ltb, le-ltb, eqb-true, eqb-false}
-use Rattle.lists.specs.Build.{build}
 use Rattle.lists.specs.Fold.{fold}
-use Rattle.lists.proofs.Filling.{length-build, getD-build}
-use Rattle.lists.proofs.Folding.{fold-keeps, fold-same}
+use Rattle.lists.proofs.Folding.{fold-keeps}
 use Rattle.lists.proofs.Parts.{entry-fits}
-use Rattle.numbers.specs.Number.{zeroF, max}
+use Rattle.numbers.specs.Number.{zeroF, max, negative}
 use Rattle.numbers.specs.Slice.{at}
+use Rattle.numbers.proofs.Leaves.{clash}
+use Rattle.numbers.proofs.Order.{not-above}
+use Rattle.complex.proofs.Bounds.{bound-holds}
 use Rattle.complex.specs.declared.Complex.{Complex}
-use Rattle.complex.specs.Arithmetic.{magnitude}
+use Rattle.complex.specs.Arithmetic.{magnitude, bound}
 use Rattle.entries.specs.Entries.{nowhere, entryAt}
 use Rattle.magnitudes.specs.declared.Pivot.{Pivot}
 use Rattle.magnitudes.specs.Pivot.{larger, pivotIn, pivotOf, noPivot, scaleBy, scaleOf, smallestNormal}
-use Rattle.magnitudes.specs.Notes.{Notes, notes, found, Noted, Kept, Search, measured, noted, notedCross, renoted, sizedAt, looked, lookedIn, searched}
-use Rattle.sorting.proofs.Order.{not-above}
+use Rattle.magnitudes.specs.Notes.{Notes, notes, found, Noted, Kept, Search, measured, unsized, widened, noted, notedCross, renoted, sizedAt, looked, lookedIn, searched}
 
 -- a known magnitude is a fair note
 pub size-fair : (z : Complex) → Noted z (magnitude z) (magnitude z)
 size-fair z = record { skipped = λ b h. not-above (magnitude z) b h; known = λ _. refl }
 
+-- a bound alone is one too
+pub bound-fair : (z : Complex) → Noted z (bound z) unsized
+unfolding lt neg ofBits
+bound-fair z = record { skipped = bound-holds z; known = λ h. clash (sym h) }
+
 -- both slices have a number for each entry
 abbrev pub Long : ℕ → Notes → Type 0
 Long n w = (length (w .bounds) ≡ n * n) × (length (w .sizes) ≡ n * n)
-
-pub kept-first : (n : ℕ) (a : List Complex) → Kept n a (measured n a)
-unfolding measured
-kept-first n a i j h l =
-    let k : i * n + j < n * n = entry-fits i j n n (omega arith) l in
-    let e : getD (build (n * n) (λ k. magnitude (getD a k nowhere))) (i * n + j) nan ≡ magnitude (entryAt n a i j) = getD-build nan (n * n) (i * n + j) (λ k. magnitude (getD a k nowhere)) k in
-    rw e (size-fair (entryAt n a i j))
 
 -- ---- the note of entry x, where that of entry k is written
 
@@ -62,6 +60,29 @@ module _ (a : List Complex) (k x : ℕ) (w : Notes) (b s : Float) (l : k < lengt
 pub long-noted : (n : ℕ) (a : List Complex) (k : ℕ) (w : Notes) → Long n w → Long n (noted a k w)
 unfolding noted
 long-noted n a k w l = (simp length-set (l .0), simp length-set (l .1))
+
+note-fair : (n : ℕ) (a : List Complex) (k x : ℕ) (w : Notes) → k < n * n → Long n w → (x ≡ k) ⊎ Fair a x w → Fair a x (noted a k w)
+unfolding noted
+note-fair n a k x w h l f = write-fair a k x w _ _ (rw (l .0) h) (rw (l .1) h) (bound-fair (getD a k nowhere)) f
+
+-- ---- all entries
+
+module _ (n : ℕ) (a : List Complex) (w : Notes) (long : Long n w) where
+  long-all : (m : ℕ) → Long n (fold m (noted a) w)
+  unfolding fold
+  long-all zero = long
+  long-all (suc m) = long-noted n a m _ (long-all m)
+
+  fair-all : (m x : ℕ) → m ≤ n * n → x < m → Fair a x (fold m (noted a) w)
+  unfolding fold
+  fair-all zero x h l = absurd (omega arith)
+  fair-all (suc m) x h l =
+      note-fair n a m x _ h (long-all m)
+      (⊎-elim (λ (e : x ≡ m). inl e) (λ (k : x < m). inr (fair-all m x (omega arith) k)) (eq-or-lt-of-le (le-of-suc-le-suc l)))
+
+  pub kept-first : Kept n a (measured n a w)
+  unfolding measured
+  kept-first i j h l = fair-all (n * n) (i * n + j) (omega arith) (entry-fits i j n n (omega arith) l)
 
 -- ---- the search
 
@@ -136,27 +157,23 @@ module _ (n : ℕ) (a : List Complex) (c : ℕ) (inside : c < n) where
       go false true = long-noted n a (c * n + k) w l
       go false false = l
 
-  note-fair : (k x : ℕ) (w : Notes) → k < n * n → Long n w → (x ≡ k) ⊎ Fair a x w → Fair a x (noted a k w)
-  unfolding noted
-  note-fair k x w h l f = write-fair a k x w _ _ (rw (l .0) h) (rw (l .1) h) (size-fair (getD a k nowhere)) f
-
   -- what is fair stays so
   cross-keeps : (k x : ℕ) (w : Notes) → k < n → Long n w → Fair a x w → Fair a x (notedCross n a c k w)
   unfolding notedCross
   cross-keeps k x w h l f = go (ltb k c) (ltb c k)
     where
       go : (y z : Bool) → Fair a x (cond y (noted a (k * n + c) w) (cond z (noted a (c * n + k) w) w))
-      go true z = note-fair (k * n + c) x w (entry-fits k c n n h inside) l (inr f)
-      go false true = note-fair (c * n + k) x w (entry-fits c k n n inside h) l (inr f)
+      go true z = note-fair n a (k * n + c) x w (entry-fits k c n n h inside) l (inr f)
+      go false true = note-fair n a (c * n + k) x w (entry-fits c k n n inside h) l (inr f)
       go false false = f
 
   cross-column : (k : ℕ) (w : Notes) → k < c → Long n w → Fair a (k * n + c) (notedCross n a c k w)
   unfolding notedCross
-  cross-column k w h l = rw (lt-ltb k c h) (note-fair (k * n + c) (k * n + c) w (entry-fits k c n n (omega arith) inside) l (inl refl))
+  cross-column k w h l = rw (lt-ltb k c h) (note-fair n a (k * n + c) (k * n + c) w (entry-fits k c n n (omega arith) inside) l (inl refl))
 
   cross-row : (k : ℕ) (w : Notes) → c < k → k < n → Long n w → Fair a (c * n + k) (notedCross n a c k w)
   unfolding notedCross
-  cross-row k w h m l = rw (le-ltb k c (omega arith), lt-ltb c k h) (note-fair (c * n + k) (c * n + k) w (entry-fits c k n n inside m) l (inl refl))
+  cross-row k w h m l = rw (le-ltb k c (omega arith), lt-ltb c k h) (note-fair n a (c * n + k) (c * n + k) w (entry-fits c k n n inside m) l (inl refl))
 
   long-crosses : (k : ℕ) (w : Notes) → Long n w → Long n (fold k (notedCross n a c) w)
   unfolding fold
@@ -220,12 +237,63 @@ search-finds n a w g b s l k e =
     let r = subst (λ (f : Search). Good n a f (pivotOf n a)) (sym e) (good-search n a w l k) in
     (r .0, r .2)
 
--- the scale, by known magnitudes
-pub scale-measured : (n : ℕ) (a : List Complex) (b s : List Float) → length s ≡ n * n → notes b s ≡ measured n a → scaleBy (length s) (at s) ≡ scaleOf n a
-unfolding measured scaleBy scaleOf
-scale-measured n a b s l e =
-    let q : s ≡ build (n * n) (λ k. magnitude (getD a k nowhere)) = ap (λ (w : Notes). w .sizes) e in
-    rw (l, q)
-    (ap (λ (x : Float). max x smallestNormal)
-    (fold-same (λ k x. max x (at (build (n * n) (λ k. magnitude (getD a k nowhere))) k)) (λ k x. max x (magnitude (getD a k nowhere))) (n * n) zeroF
-    (λ k x h. ap (max x) (getD-build nan (n * n) k (λ k. magnitude (getD a k nowhere)) h))))
+-- ---- the scale
+
+-- a number to start from: neither a NaN nor negative
+abbrev Proper : Float → Type 0
+Proper s = (isNan s ≡ false) × (negative s ≡ false)
+
+-- what is not larger changes nothing
+max-same : (s x : Float) → Proper s → lt s x ≡ false → max s x ≡ s
+unfolding max
+max-same s x (n, p) h = rw (n, h, p) (go (isNan x) (lt x s))
+  where
+    go : (b c : Bool) → cond b s (cond c s s) ≡ s
+    go true c = refl
+    go false true = refl
+    go false false = refl
+
+-- what is above a number that is not negative is neither a NaN nor negative
+proper-above : (s x : Float) → negative s ≡ false → lt s x ≡ true → Proper x
+unfolding lt negative isNan
+proper-above nan x p h = clash h
+proper-above (inf true) x p h = clash (sym p)
+proper-above (inf false) nan p h = clash h
+proper-above (inf false) (inf t) p h = clash h
+proper-above (inf false) (fin t n d) p h = clash h
+proper-above (fin true m e) x p h = clash (sym p)
+proper-above (fin false m e) nan p h = clash h
+proper-above (fin false m e) (inf true) p h = clash h
+proper-above (fin false m e) (inf false) p h = (refl, refl)
+proper-above (fin false m e) (fin true n d) p h = clash h
+proper-above (fin false m e) (fin false n d) p h = (refl, refl)
+
+max-larger : (s x : Float) → Proper s → lt s x ≡ true → max s x ≡ x
+unfolding max
+max-larger s x (n, p) h = rw (n, h, proper-above s x p h .0)
+
+max-proper : (s x : Float) → Proper s → Proper (max s x)
+max-proper s x p = go (lt s x) refl
+  where
+    go : (b : Bool) → lt s x ≡ b → Proper (max s x)
+    go true h = rw (max-larger s x p h) (proper-above s x (p .1) h)
+    go false h = rw (max-same s x p h) p
+
+widened-is : (z : Complex) (s : Float) → Proper s → widened z s ≡ max s (magnitude z)
+unfolding widened
+widened-is z s p = go (le (bound z) s) refl
+  where
+    go : (b : Bool) → le (bound z) s ≡ b → cond b s (max s (magnitude z)) ≡ max s (magnitude z)
+    go true h = sym (max-same s (magnitude z) p (bound-holds z s h))
+    go false h = refl
+
+all-widened : (z : ℕ → Complex) (m : ℕ) → (fold m (λ k. widened (z k)) zeroF ≡ fold m (λ k s. max s (magnitude (z k))) zeroF) × Proper (fold m (λ k s. max s (magnitude (z k))) zeroF)
+unfolding fold isNan negative ofBits
+all-widened z zero = (refl, (refl, refl))
+all-widened z (suc m) =
+    let h = all-widened z m in
+    (ap (widened (z m)) (h .0) ∙ widened-is (z m) _ (h .1), max-proper _ _ (h .1))
+
+pub scale-is : (n : ℕ) (a : List Complex) (s : Float) → s ≡ fold (n * n) (λ k. widened (getD a k nowhere)) zeroF → max s smallestNormal ≡ scaleOf n a
+unfolding scaleOf scaleBy
+scale-is n a s e = ap (λ (x : Float). max x smallestNormal) (e ∙ all-widened (λ k. getD a k nowhere) (n * n) .0)

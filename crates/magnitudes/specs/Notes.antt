@@ -7,12 +7,11 @@ use Prim.Native.Nat.{ℕ, _+_, _-_, _*_, _<_}
 use lib.Dec.{ltb}
 use lib.ListN.{getD, set, length}
 use lib.Ieee.{Float, nan, lt, le, neg}
-use Rattle.lists.specs.Build.{build}
 use Rattle.lists.specs.Fold.{fold}
-use Rattle.numbers.specs.Number.{number, zeroF, oneF, _*ᶠ_}
+use Rattle.numbers.specs.Number.{zeroF, oneF, max}
 use Rattle.numbers.specs.Slice.{at}
 use Rattle.complex.specs.declared.Complex.{Complex}
-use Rattle.complex.specs.Arithmetic.{magnitude}
+use Rattle.complex.specs.Arithmetic.{magnitude, bound}
 use Rattle.entries.specs.Entries.{nowhere, entryAt}
 use Rattle.magnitudes.specs.declared.Pivot.{Pivot}
 use Rattle.magnitudes.specs.Pivot.{larger, noPivot}
@@ -33,15 +32,22 @@ pub record Noted (z : Complex) (bound size : Float) : Type 0 where
 abbrev pub Kept : ℕ → List Complex → Notes → Type 0
 Kept n a w = (i j : ℕ) → i < j → j < n → Noted (entryAt n a i j) (at (w .bounds) (i * n + j)) (at (w .sizes) (i * n + j))
 
--- all magnitudes are known
-unfoldable pub measured : ℕ → List Complex → Notes
-measured n a = record { bounds = build (n * n) (λ k. magnitude (getD a k nowhere)); sizes = build (n * n) (λ k. magnitude (getD a k nowhere)) }
+-- the size of an entry whose magnitude is not known
+abbrev pub unsized : Float
+unsized = neg oneF
 
--- ---- after a rotation
+-- the larger of s and z's magnitude, which is not worked out where its bound is no larger
+unfoldable pub widened : Complex → Float → Float
+widened z s = cond (le (bound z) s) s (max s (magnitude z))
 
--- entry k is noted anew
+-- ---- before the first rotation, and after each
+
+-- entry k is noted anew: its bound, and that its magnitude is not known
 unfoldable pub noted : List Complex → ℕ → Notes → Notes
-noted a k w = record { bounds = set (w .bounds) k (magnitude (getD a k nowhere)); sizes = set (w .sizes) k (magnitude (getD a k nowhere)) }
+noted a k w = record { bounds = set (w .bounds) k (bound (getD a k nowhere)); sizes = set (w .sizes) k unsized }
+
+unfoldable pub measured : ℕ → List Complex → Notes → Notes
+measured n a w = fold (n * n) (noted a) w
 
 -- that of row and column c above the diagonal which stands in row or column k
 unfoldable pub notedCross : ℕ → List Complex → ℕ → ℕ → Notes → Notes

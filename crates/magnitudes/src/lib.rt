@@ -1,12 +1,12 @@
 // The pivot of classical Jacobi: the largest magnitude above the diagonal. A square root costs more than all else that is done to an entry, so a bound of each
-// magnitude is kept, and the magnitude itself once it was needed.
+// magnitude is kept, and the magnitude itself once the bound did not rule it out.
 ghost use mathlib.Core.Path.{_≡_};
 ghost use Prim.Native.Nat.{_+_, _*_, _≤_, _<_};
 ghost use lib.ListN.{length, getD};
 ghost use Rattle.entries.specs.Entries.{entries, nowhere};
-ghost use Rattle.numbers.specs.Slice.{at};
 ghost use Rattle.magnitudes.specs.Pivot as spec;
-ghost use Rattle.magnitudes.specs.Notes.{notes, found, noted, notedCross, renoted, measured, looked, lookedIn, searched};
+ghost use Rattle.magnitudes.specs.Notes.{notes, found, widened, noted, notedCross, renoted, measured, looked, lookedIn, searched};
+use complex::Complex;
 
 pub struct Pivot {
     pub best: f64,
@@ -14,39 +14,47 @@ pub struct Pivot {
     pub q: usize,
 }
 
-// The magnitudes of the n by n matrix in a, into both slices.
-pub fn measure(a: &[f64], n: usize, bounds: &mut [f64], sizes: &mut [f64])
-    requires { ⌜ (length (now a) ≡ 2 * (n * n)) × (length (now bounds) ≡ n * n) × (length (now sizes) ≡ n * n) ⌝ }
-    ensures { λ _. ⌜ notes (now (bounds .exit)) (now (sizes .exit)) ≡ measured n (entries (now (a .entry))) ⌝ }
+// The larger of s and the magnitude of z.
+fn widen(z: Complex, s: f64) -> f64
+    ensures { λ r. ⌜ r ≡ widened z s ⌝ }
 {
-    let end = sizes.len();
-    for k in 0..end {
-        let x = entries::get(a, k).magnitude();
-        bounds[k] = x;
-        sizes[k] = x;
+    if z.bound() <= s {
+        return s;
     }
+    numbers::max_of(s, z.magnitude())
 }
 
-// The largest of the magnitudes, and at least the smallest normal number.
-pub fn scale(sizes: &[f64]) -> f64
-    ensures { λ r. ⌜ r ≡ spec.scaleBy (length (now (sizes .entry))) (at (now (sizes .entry))) ⌝ }
+// The largest magnitude of the n by n matrix in a, and at least the smallest normal number.
+pub fn scale(a: &[f64], n: usize) -> f64
+    requires { ⌜ length (now a) ≡ 2 * (n * n) ⌝ }
+    ensures { λ r. ⌜ r ≡ spec.scaleOf n (entries (now (a .entry))) ⌝ }
 {
-    let end = sizes.len();
+    let end = n * n;
     let mut s = 0.0;
     for k in 0..end {
-        s = numbers::max_of(s, sizes[k]);
+        s = widen(entries::get(a, k), s);
     }
     numbers::max_of(s, f64::from_bits(0x0010_0000_0000_0000))
 }
 
-// Notes entry k anew.
+// Notes entry k anew: its bound, and that its magnitude is not known.
 fn note(a: &[f64], k: usize, bounds: &mut [f64], sizes: &mut [f64])
     requires { ⌜ (2 * k + 1 < length (now a)) × (k < length (now bounds)) × (k < length (now sizes)) ⌝ }
     ensures { λ _. ⌜ notes (now (bounds .exit)) (now (sizes .exit)) ≡ noted (entries (now (a .entry))) k (notes (now (bounds .entry)) (now (sizes .entry))) ⌝ }
 {
-    let x = entries::get(a, k).magnitude();
-    bounds[k] = x;
-    sizes[k] = x;
+    bounds[k] = entries::get(a, k).bound();
+    sizes[k] = -1.0;
+}
+
+// Notes all entries of the n by n matrix in a.
+pub fn measure(a: &[f64], n: usize, bounds: &mut [f64], sizes: &mut [f64])
+    requires { ⌜ (length (now a) ≡ 2 * (n * n)) × (length (now bounds) ≡ n * n) × (length (now sizes) ≡ n * n) ⌝ }
+    ensures { λ _. ⌜ notes (now (bounds .exit)) (now (sizes .exit)) ≡ measured n (entries (now (a .entry))) (notes (now (bounds .entry)) (now (sizes .entry))) ⌝ }
+{
+    let end = sizes.len();
+    for k in 0..end {
+        note(a, k, bounds, sizes);
+    }
 }
 
 // Notes what row and column c have above the diagonal in column or row k.

@@ -1,5 +1,5 @@
 -- Sums of products: over a row that was lent, and row by row. Assumes nothing.
-use mathlib.Core.Path.{_≡_, _∙_, ap}
+use mathlib.Core.Path.{_≡_, _∙_, ap, ap₂}
 use mathlib.Core.List.{List}
 use Prim.Native.Nat.{ℕ, _+_, _-_, _*_, _/_, _%_, _≤_, _<_}
 use native.Mathlib.Omega.{arith}
@@ -11,7 +11,7 @@ use Rattle.lists.specs.Fold.{fold}
 use Rattle.lists.specs.Part.{part}
 use Rattle.lists.proofs.Filling.{length-build, build-same}
 use Rattle.lists.proofs.Folding.{fold-more, fold-same, build-fold}
-use Rattle.lists.proofs.Parts.{row-of, column-of, length-part, row-fits}
+use Rattle.lists.proofs.Parts.{row-of, column-of, length-part, part-lent, lent-long, row-fits}
 use Rattle.numbers.specs.Number.{minusZeroF, _+ᶠ_, _*ᶠ_}
 use Rattle.numbers.specs.Slice.{at}
 use Rattle.matrix.specs.Product.{cell, sumOf, dotOf, matVecOf, rowMatOf, matMulOf}
@@ -44,6 +44,10 @@ pub row-long : (a : List Float) (i n e : ℕ) → e ≡ i * n + n → i < n → 
 row-long a i n e h l m =
     let k : e - i * n ≡ n = omega arith in
     rw k (length-part (i * n) n a (row-fits i n n (length a) l m))
+
+-- the part `a..e` of a list, lent, times x
+pub dot-lent : (l x : List Float) (a e n : ℕ) → e ≡ a + n → e ≤ length l → dotOf (length (take (e - a) (drop a l))) (take (e - a) (drop a l)) x ≡ dotOf n (part a n l) x
+dot-lent l x a e n h k = ap₂ (λ (m : ℕ) (p : List Float). dotOf m p x) (lent-long a e n l h k) (part-lent a e n l h)
 
 -- row i of a, lent, times x
 pub dot-row : (a x : List Float) (i n m e : ℕ) → e ≡ i * n + n → m ≡ n → dotOf m (take (e - i * n) (drop (i * n) a)) x ≡ sumOf n (λ j. cell n a i j *ᶠ at x j)

@@ -85,7 +85,7 @@ fn add_rows(x: &[f64], a: &[f64], n: usize, row: &mut [f64])
 }
 
 // Writes the row over with the front of `from`.
-fn put_row(row: &mut [f64], from: &[f64])
+pub fn put_row(row: &mut [f64], from: &[f64])
     requires { ⌜ length (now row) ≤ length (now from) ⌝ }
     ensures { λ _. ⌜ now (row .exit) ≡ take (length (now (row .entry))) (now (from .entry)) ⌝ }
 {
@@ -93,6 +93,16 @@ fn put_row(row: &mut [f64], from: &[f64])
     for j in 0..w {
         row[j] = from[j];
     }
+}
+
+// The row x times the matrix a, in place.
+pub fn row_times(x: &mut [f64], a: &[f64], n: usize)
+    requires { ⌜ (n ≤ 16) × (length (now x) ≡ n) × (n * n ≤ length (now a)) ⌝ }
+    ensures { λ _. ⌜ now (x .exit) ≡ rowMatOf n (now (x .entry)) (now (a .entry)) ⌝ }
+{
+    let mut sums = [0.0f64; 16];
+    add_rows(x, a, n, &mut sums[..n]);
+    put_row(x, &sums);
 }
 
 // The same, with the sums in a local array, which no other slice overlaps.

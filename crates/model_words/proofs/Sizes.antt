@@ -4,15 +4,18 @@ use mathlib.Core.Path.{_≡_, sym, ap, _∙_}
 use mathlib.Core.List.{List, [], _∷_, _++_, append-nil}
 use native.Mathlib.Nat.{not-suc-le-zero}
 use native.Mathlib.Omega.{arith}
-use lib.ListN.{length, take, drop, set, drop-of-length-le}
+use lib.ListN.{length, take, drop, set, length-append, drop-of-length-le}
 use lib.Seq.{take-all}
 use lib.Ieee.{Float}
 use Rattle.lists.specs.Build.{over, joined}
 use Rattle.lists.proofs.Joined.{length-joined, over-onto, rest-lent}
-use Rattle.numbers.specs.Slice.{wordsOf}
-use Rattle.numbers.proofs.Slices.{length-words}
+use Rattle.lists.proofs.Parts.{over-front}
+use Rattle.numbers.specs.Slice.{numbersAt, wordsOf}
+use Rattle.numbers.proofs.Slices.{length-numbers, length-words}
 use Rattle.card_layout.specs.declared.Header.{Header}
-use Rattle.model_words.specs.Words.{vectorNumbers, gateWords, gatesWords, modelWordsOf}
+use Rattle.card_places.specs.Places.{stateAt}
+use Rattle.card_parts.specs.Model.{gateOf}
+use Rattle.model_words.specs.Words.{vectorNumbers, modelNumbers, numbersOf, gateWords, gatesWords, modelWordsOf}
 
 module _ (s : List ℕ) (h : Header) where
   pub length-gate : (g : ℕ) (numbers : List Float) → length (gateWords s h g numbers) ≡ 1 + h .dimension * h .dimension
@@ -41,3 +44,25 @@ model-written s h numbers l v e f out ys q k m o y =
     (o ∙ ap (λ (j : ℕ). wordsOf v numbers ++ drop j l) (sym (length-words v numbers)))
     (y ∙ ap (λ (x : List Float). over (gatesWords s h x) (take (e - v) (drop v out))) (rest-lent v f numbers m))
     ∙ ap (λ (v : ℕ). over (wordsOf v numbers ++ gatesWords s h (drop v numbers)) l) q
+
+-- ---- the numbers of the card's model
+
+module _ (s : List ℕ) (h : Header) where
+  pub length-gate-numbers : (g : ℕ) → length (gateOf s h g) ≡ h .dimension * h .dimension
+  unfolding gateOf
+  length-gate-numbers g = length-numbers s _ _
+
+  pub length-gates-numbers : (g : ℕ) → length (joined g (gateOf s h)) ≡ g * (h .dimension * h .dimension)
+  length-gates-numbers g = length-joined g (h .dimension * h .dimension) (gateOf s h) (λ i _. length-gate-numbers i)
+
+  pub length-model : length (numbersOf s h) ≡ modelNumbers h
+  unfolding numbersOf
+  length-model = omega (arith, length-append (numbersAt s (stateAt h) (vectorNumbers h)) (joined (h .gates) (gateOf s h)), length-numbers s (stateAt h) (vectorNumbers h), length-gates-numbers (h .gates))
+
+  -- the vectors' numbers were written, and then the gates' behind them
+  pub model-loaded : (l : List Float) (p v e : ℕ) (out ys : List Float) → p ≡ stateAt h → v ≡ vectorNumbers h → e ≡ length out → out ≡ numbersAt s p v ++ drop v l
+      → ys ≡ over (joined (h .gates) (gateOf s h)) (take (e - v) (drop v out)) → take v out ++ (ys ++ drop (e - v) (drop v out)) ≡ over (numbersOf s h) l
+  unfolding numbersOf
+  model-loaded l p v e out ys a q k o y =
+      over-onto (numbersAt s p v) (joined (h .gates) (gateOf s h)) l v e out ys (length-numbers s p v) k (over-front (numbersAt s p v) l (length-numbers s p v) o) y
+      ∙ rw (a, q)

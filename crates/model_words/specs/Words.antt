@@ -4,9 +4,10 @@ use mathlib.Core.List.{List, _∷_, _++_}
 use lib.ListN.{drop}
 use lib.Ieee.{Float}
 use Rattle.lists.specs.Build.{joined}
-use Rattle.numbers.specs.Slice.{wordsOf}
+use Rattle.numbers.specs.Slice.{numbersAt, wordsOf}
 use Rattle.card_layout.specs.declared.Header.{Header}
-use Rattle.card_parts.specs.Model.{nameOf}
+use Rattle.card_places.specs.Places.{stateAt}
+use Rattle.card_parts.specs.Model.{nameOf, gateOf}
 
 -- the state's and the effects' numbers, and with the gates' all of them
 abbrev pub vectorNumbers : Header → ℕ
@@ -14,6 +15,10 @@ vectorNumbers h = h .dimension + h .effects * h .dimension
 
 abbrev pub modelNumbers : Header → ℕ
 modelNumbers h = vectorNumbers h + h .gates * (h .dimension * h .dimension)
+
+-- those of the card's model: the state's and the effects' lie in a row, then each gate's
+unfoldable pub numbersOf : List ℕ → Header → List Float
+numbersOf s h = numbersAt s (stateAt h) (vectorNumbers h) ++ joined (h .gates) (gateOf s h)
 
 -- gate g, whose numbers come first: its name as it stands on the card, then its numbers
 unfoldable pub gateWords : List ℕ → Header → ℕ → List Float → List ℕ

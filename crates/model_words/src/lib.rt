@@ -1,14 +1,18 @@
 // The words of a model, as a sheet shows them: its numbers, and between them the gates' names from the card.
 use card_layout::Header;
+use card_parts::load_gate;
 use card_parts::name_of;
+use card_places::model_at;
+use numbers::load;
 use sizes::square;
 ghost use mathlib.Core.Path.{_≡_};
 ghost use Prim.Native.Nat.{_+_, _*_, _≤_, _<_};
 ghost use lib.ListN.{length};
-ghost use Rattle.lists.specs.Build.{over};
+ghost use Rattle.lists.specs.Build.{joined, over};
 ghost use Rattle.card_places.specs.Shape.{Shaped};
 ghost use Rattle.card_places.specs.Places.{modelWords};
-ghost use Rattle.model_words.specs.Words.{vectorNumbers, modelNumbers, gateWords, gatesWords, modelWordsOf};
+ghost use Rattle.card_parts.specs.Model.{gateOf};
+ghost use Rattle.model_words.specs.Words.{vectorNumbers, modelNumbers, numbersOf, gateWords, gatesWords, modelWordsOf};
 
 // How many numbers the state and the effects have.
 pub fn vector_numbers(h: Header) -> usize
@@ -27,6 +31,29 @@ pub fn model_numbers(h: Header) -> usize
 {
     let g = h.gates;
     vector_numbers(h) + g * square(h.dimension)
+}
+
+// Puts the numbers of the gates at the front of the slice.
+fn load_gates(card: &[u8], h: Header, out: &mut [f64])
+    requires { ⌜ Shaped (now card) h × (h .gates * (h .dimension * h .dimension) ≤ length (now out)) ⌝ }
+    ensures { λ _. ⌜ now (out .exit) ≡ over (joined (h .gates) (gateOf (now (card .entry)) h)) (now (out .entry)) ⌝ }
+{
+    let count = h.gates;
+    let m = square(h.dimension);
+    for g in 0..count {
+        let start = g * m;
+        load_gate(card, h, g, &mut out[start..]);
+    }
+}
+
+// Puts the numbers of the card's model at the front of the slice.
+pub fn load_model(card: &[u8], h: Header, out: &mut [f64])
+    requires { ⌜ Shaped (now card) h × (5 ≤ h .kind) × (modelNumbers h ≤ length (now out)) ⌝ }
+    ensures { λ _. ⌜ now (out .exit) ≡ over (numbersOf (now (card .entry)) h) (now (out .entry)) ⌝ }
+{
+    let v = vector_numbers(h);
+    load(card, model_at(h), v, out);
+    load_gates(card, h, &mut out[v..]);
 }
 
 // The words of one gate: its name, and its numbers' words.

@@ -1,4 +1,6 @@
 pub mod Leaves
 pub mod Finite
+pub mod Products
 pub mod Slices
 pub mod Shifts
+pub mod Order

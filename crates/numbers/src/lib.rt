@@ -75,17 +75,14 @@ pub fn is_positive(x: f64) -> bool
     false
 }
 
-// x without its sign, of a zero too.
+// x without its sign, of a zero too. The bits are masked, since a branch on the sign is one that the processor cannot foresee.
 pub fn abs_of(x: f64) -> f64
     ensures { λ r. ⌜ r ≡ abs x ⌝ }
 {
-    if x < 0.0 {
-        return -x;
+    if x != x {
+        return x;
     }
-    if x == 0.0 {
-        return 0.0;
-    }
-    x
+    f64::from_bits(f64::to_bits(x) % 0x8000_0000_0000_0000)
 }
 
 // Whether the sign of x is set. A NaN has none.

@@ -18,7 +18,7 @@ use Rattle.refusal.specs.Verdicts.{firstOf, finiteOr, checkedNumbers}
 use Rattle.refusal.proofs.Verdicts.{never-good}
 use Rattle.booleans.proofs.Joined.{clash}
 use Rattle.outcome.specs.declared.Answer.{Answer}
-use Rattle.outcome.specs.declared.Answer.the-variants.{Density, Process, Model, Probes, Setting, Applied, Refused}
+use Rattle.outcome.specs.declared.Answer.the-variants.{Density, Projected, Process, Physical, Model, Diagnostics, Probes, Setting, Applied, Choi, Refused}
 use Rattle.outcome.specs.Outcome.{Outcome, refused, shown, Gives, roomy, inRoom, Call}
 
 -- an outcome that writes nothing where it is refused, and that is not refusal 16
@@ -29,11 +29,15 @@ pub record Sound (o : Outcome) : Type 0 where
 -- refusals are told apart from other answers, and by their numbers from one another
 abbrev pub isRefused : Answer → Bool
 isRefused (Density d) = false
+isRefused (Projected d) = false
 isRefused (Process p) = false
+isRefused (Physical t u c) = false
 isRefused (Model w) = false
+isRefused Diagnostics = false
 isRefused (Probes c) = false
 isRefused (Setting n) = false
 isRefused (Applied p) = false
+isRefused (Choi d) = false
 isRefused (Refused r) = true
 
 same-refusal : {r q : Refusal} → Refused r ≡ Refused q → codeOf r ≡ codeOf q

@@ -1,7 +1,7 @@
 -- The outcome of a call: its answer, and the words that it writes into the result from word 0. A sheet and a refusal are document 01's terms.
 use Prim.Native.Nat.{ℕ}
 use mathlib.Core.Path.{_≡_}
-use mathlib.Core.Bool.{Bool, cond, _&&_}
+use mathlib.Core.Bool.{Bool, true, false, cond, _&&_}
 use mathlib.Core.List.{List, []}
 use lib.Dec.{leb}
 use lib.ListN.{length}
@@ -46,3 +46,8 @@ inRoom result work o = cond (roomy result work) o (refused ShortBuffer)
 pub record Call (o : Outcome) (result₀ result₁ : List ℕ) (work₀ work₁ : List Float) (r : Answer) : Type 0 where
   pub gives : Gives (inRoom result₀ work₀ o) result₀ result₁ r
   pub blanked : work₁ ≡ blank work₀
+
+-- what holds or not, as a sheet shows it
+abbrev pub bitOf : Bool → ℕ
+bitOf true = 1
+bitOf false = 0

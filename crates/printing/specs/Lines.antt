@@ -3,7 +3,7 @@ use Prim.Native.Nat.{ℕ, _+_, _*_}
 use mathlib.Core.Bool.{cond, _&&_}
 use lib.Dec.{leb}
 use Rattle.outcome.specs.declared.Answer.{Answer}
-use Rattle.outcome.specs.declared.Answer.the-variants.{Density, Process, Model, Probes, Setting, Applied, Refused}
+use Rattle.outcome.specs.declared.Answer.the-variants.{Density, Projected, Process, Physical, Model, Diagnostics, Probes, Setting, Applied, Choi, Refused}
 
 -- of a result of so many words: what it cannot hold is not shown
 abbrev pub wordLines : ℕ → ℕ → ℕ
@@ -13,11 +13,19 @@ wordLines count words = cond (leb count words) (1 + count) 1
 abbrev pub squareLines : ℕ → ℕ → ℕ
 squareLines p words = cond (leb p 64) (wordLines (p * p) words) 1
 
+-- one of d rows, a line for each entry's two words
+abbrev pub entryLines : ℕ → ℕ → ℕ
+entryLines d words = cond (leb d 64 && leb (2 * (d * d)) words) (1 + d * d) 1
+
 abbrev pub linesOf : Answer → ℕ → ℕ
-linesOf (Density d) words = cond (leb d 64 && leb (2 * (d * d)) words) (1 + d * d) 1
+linesOf (Density d) words = entryLines d words
+linesOf (Projected d) words = entryLines d words
 linesOf (Process p) words = squareLines p words
+linesOf (Physical t u c) words = 1
 linesOf (Model w) words = wordLines w words
+linesOf Diagnostics words = wordLines 2 words
 linesOf (Probes p) words = squareLines p words
 linesOf (Setting n) words = wordLines n words
 linesOf (Applied p) words = wordLines p words
+linesOf (Choi d) words = entryLines d words
 linesOf (Refused r) words = 1

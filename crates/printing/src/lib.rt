@@ -2,11 +2,12 @@
 use card::Reading;
 use libc::STDOUT_FILENO;
 use outcome::Answer;
+use outcome::bit_of;
 use refusal::Refusal;
 ghost use mathlib.Core.Path.{_≡_};
 ghost use Prim.Native.Nat.{_+_, _*_, _≤_, _<_};
 ghost use lib.ListN.{length};
-ghost use Rattle.printing.specs.Lines.{wordLines, squareLines, linesOf};
+ghost use Rattle.printing.specs.Lines.{wordLines, squareLines, entryLines, linesOf};
 
 fn print_number(n: u64, end: &[u8]) {
     io::print_decimal(STDOUT_FILENO, n);
@@ -52,10 +53,11 @@ fn print_entries(result: &[u64], count: usize)
     }
 }
 
-// A matrix of d rows, where the result holds it; how many lines were written.
-fn print_matrix(d: u64, result: &[u64]) -> usize
-    ensures { λ n. ⌜ n ≡ linesOf (Answer.Density d) (length (now (result .entry))) ⌝ }
+// A header, and a matrix of d rows where the result holds it; how many lines were written.
+fn print_matrix(name: &[u8], d: u64, result: &[u64]) -> usize
+    ensures { λ n. ⌜ n ≡ entryLines d (length (now (result .entry))) ⌝ }
 {
+    print_header(name, d);
     if 64 < d {
         return 1;
     }
@@ -75,8 +77,8 @@ fn print_words(result: &[u64], count: usize)
     }
 }
 
-// So many words, one a line, where the result holds them; how many lines were written.
-fn print_list(count: u64, result: &[u64]) -> usize
+// After a header, so many words, one a line, where the result holds them; how many lines there are then.
+fn print_body(count: u64, result: &[u64]) -> usize
     ensures { λ n. ⌜ n ≡ wordLines count (length (now (result .entry))) ⌝ }
 {
     let n = count as usize;
@@ -87,14 +89,42 @@ fn print_list(count: u64, result: &[u64]) -> usize
     1 + n
 }
 
-// A matrix of p rows, one word a line.
-fn print_square(p: u64, result: &[u64]) -> usize
+// A header, and as many words as it says.
+fn print_list(name: &[u8], count: u64, result: &[u64]) -> usize
+    ensures { λ n. ⌜ n ≡ wordLines count (length (now (result .entry))) ⌝ }
+{
+    print_header(name, count);
+    print_body(count, result)
+}
+
+// A header, and a matrix of p rows, one word a line.
+fn print_square(name: &[u8], p: u64, result: &[u64]) -> usize
     ensures { λ n. ⌜ n ≡ squareLines p (length (now (result .entry))) ⌝ }
 {
+    print_header(name, p);
     if 64 < p {
         return 1;
     }
-    print_list(p * p, result)
+    print_body(p * p, result)
+}
+
+// `diagnostics`, and two words.
+fn print_diagnostics(result: &[u64]) -> usize
+    ensures { λ n. ⌜ n ≡ wordLines 2 (length (now (result .entry))) ⌝ }
+{
+    io::write_all(STDOUT_FILENO, b"diagnostics\n");
+    print_body(2, result)
+}
+
+// `physical T U C`: one line.
+fn print_tests(t: bool, u: bool, c: bool) -> usize
+    ensures { λ n. ⌜ n ≡ 1 ⌝ }
+{
+    io::write_all(STDOUT_FILENO, b"physical ");
+    print_number(bit_of(t), b" ");
+    print_number(bit_of(u), b" ");
+    print_number(bit_of(c), b"\n");
+    1
 }
 
 // The sheet of an answer whose numbers stand in the result, or its refusal; how many lines were written.
@@ -103,30 +133,20 @@ pub fn print_sheet(answer: Answer, result: &[u64]) -> usize
 {
     match answer {
         Answer::Refused(r) => print_refusal(r),
-        Answer::Density { dimension } => {
-            print_header(b"density ", dimension);
-            print_matrix(dimension, result)
-        }
-        Answer::Process { size } => {
-            print_header(b"process ", size);
-            print_square(size, result)
-        }
-        Answer::Model { words } => {
-            print_header(b"model ", words);
-            print_list(words, result)
-        }
-        Answer::Probes { count } => {
-            print_header(b"probes ", count);
-            print_square(count, result)
-        }
-        Answer::Setting { qubits } => {
-            print_header(b"setting ", qubits);
-            print_list(qubits, result)
-        }
-        Answer::Applied { size } => {
-            print_header(b"applied ", size);
-            print_list(size, result)
-        }
+        Answer::Density { dimension } => print_matrix(b"density ", dimension, result),
+        Answer::Projected { dimension } => print_matrix(b"projected ", dimension, result),
+        Answer::Process { size } => print_square(b"process ", size, result),
+        Answer::Physical {
+            trace_preserving,
+            unital,
+            completely_positive,
+        } => print_tests(trace_preserving, unital, completely_positive),
+        Answer::Model { words } => print_list(b"model ", words, result),
+        Answer::Diagnostics => print_diagnostics(result),
+        Answer::Probes { count } => print_square(b"probes ", count, result),
+        Answer::Setting { qubits } => print_list(b"setting ", qubits, result),
+        Answer::Applied { size } => print_list(b"applied ", size, result),
+        Answer::Choi { dimension } => print_matrix(b"choi ", dimension, result),
     }
 }
 

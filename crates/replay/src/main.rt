@@ -45,6 +45,13 @@ fn answer_apply<'a>(n: u64, values: &'a [f64], input: &'a [f64]) {
     printing::print_sheet(answer, &result);
 }
 
+fn answer_choi(n: u64, values: &[f64]) {
+    let mut result = [0u64; 4096];
+    let mut work = [0.0f64; 8192];
+    let answer = library::normalized_choi(n, values, &mut result, &mut work);
+    printing::print_sheet(answer, &result);
+}
+
 // Room for the numbers of a call.
 fn numbers_room() -> [f64; 512]
     ensures { λ r. ⌜ 512 ≡ length r ⌝ }
@@ -74,7 +81,20 @@ fn apply_call(call: &[u8], count: usize, n: u64, v: u64)
     answer_apply(n, &values[..m], &input[..inputs]);
 }
 
-// The entry (8 probes, 9 a setting, 10 a transfer matrix applied), n, then the index, or the count of values.
+// The values of a call from place 3 on.
+fn choi_call(call: &[u8], count: usize, n: u64)
+    requires { ⌜ (3 ≤ count) × (count * 8 ≤ length (now call)) ⌝ }
+{
+    let m = count - 3;
+    if 512 < m {
+        return;
+    }
+    let mut values = numbers_room();
+    numbers::load(call, 3, m, &mut values);
+    answer_choi(n, &values[..m]);
+}
+
+// The entry (8 probes, 9 a setting, 10 a transfer matrix applied, 11 a Choi matrix), n, then the index, or the count of values.
 fn answer_call(call: &[u8]) {
     let count = call.len() / 8;
     if count < 2 {
@@ -92,6 +112,10 @@ fn answer_call(call: &[u8]) {
     let third = numbers::word_at(call, 2);
     if entry == 9 {
         answer_setting(n, third);
+        return;
+    }
+    if entry == 11 {
+        choi_call(call, count, n);
         return;
     }
     apply_call(call, count, n, third);

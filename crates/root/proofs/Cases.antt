@@ -52,11 +52,14 @@ of-other (fin true (suc m) e) h g = refl
 of-other (fin false zero e) h g = clash (sym (simp zero-mul at g))
 of-other (fin false (suc m) e) h g = absurd (omega (arith, some-units m e, zero-mul (down e), ltb-false (0 * down e) (suc m * up e * 1) h))
 
--- the pattern of the root, for an exponent of each kind
-pub even-root : (m n p : ℕ) → p ≡ nearRoot 53 (m * 2 ^ 52) → n % 2 ≡ 0 → n ≤ 2097 → 2 ^ 52 ≤ p → p < 2 ^ 53 → ofBits binary64 ((n / 2 + 485) * 2 ^ 52 + p) ≡ rootOf m n
+-- the pattern of the root
+pub whole-root : (m n b k p : ℕ) → p ≡ nearRoot 53 (k * 2 ^ 52) → k ≡ m * 2 ^ b → b ≡ n % 2 → n ≤ 2097 → 2 ^ 52 ≤ p → p < 2 ^ 53 → ofBits binary64 ((n / 2 + 485) * 2 ^ 52 + p) ≡ rootOf m n
 unfolding rootOf
-even-root m n p e r b l h = pattern-of-units (n / 2 + 485) p (omega arith) l h ∙ rw (e, r, mul-one)
+whole-root m n b k p e g r h l u = pattern-of-units (n / 2 + 485) p (omega arith) l u ∙ rw (e, g, r)
 
-pub odd-root : (m n p : ℕ) → p ≡ nearRoot 53 (m * 2 * 2 ^ 52) → (n % 2 ≡ 0 → ⊥) → n ≤ 2097 → 2 ^ 52 ≤ p → p < 2 ^ 53 → ofBits binary64 ((n / 2 + 485) * 2 ^ 52 + p) ≡ rootOf m n
-unfolding rootOf
-odd-root m n p e r b l h = let o : n % 2 ≡ 1 = omega arith in pattern-of-units (n / 2 + 485) p (omega arith) l h ∙ rw (e, o)
+-- once or twice a number
+pub once : (m b : ℕ) → b ≡ 0 → m ≡ m * 2 ^ b
+once m b e = rw (e, mul-one)
+
+pub twice : (m b : ℕ) → (b ≡ 0 → ⊥) → b < 2 → m + m ≡ m * 2 ^ b
+twice m b n h = let e : b ≡ 1 = omega arith in rw e (omega arith)

@@ -91,7 +91,7 @@ value-finite (inf t) s a c h = absurd h
 value-finite (fin t m e) s a c h = (refl, h .0)
 
 -- no infinity is a finite number
-not-infinite : (x : Float) → finite x ≡ true → eq x (inf false) ≡ false
+pub not-infinite : (x : Float) → finite x ≡ true → eq x (inf false) ≡ false
 unfolding finite eq
 not-infinite nan h = refl
 not-infinite (inf s) h = clash h

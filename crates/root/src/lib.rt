@@ -2,7 +2,7 @@
 ghost use mathlib.Core.Path.{_≡_};
 ghost use Prim.Native.Nat.{_+_, _-_, _*_, _/_, _^_, _≤_, _<_};
 ghost use Rattle.root.specs.Root.{rootOf, sqrt};
-ghost use Rattle.root.specs.Search.{Brackets, Found};
+ghost use Rattle.root.specs.Search.{Brackets, Found, FromOne};
 
 // (p * p + p) / 2^52: the square of p + 1/2 in units of 2^52, rounded down.
 fn middle(p: u64) -> u64
@@ -70,40 +70,63 @@ fn near_root(m: u64, guess: u64) -> u64
     searched_root(m)
 }
 
-// A step of Newton's method for the root of f.
-fn nearer(f: f64, y: f64) -> f64 {
-    (y + f / y) * 0.5
+// About the root of an f from 1 to 2: a polynomial.
+fn about(f: f64) -> f64 {
+    let s = f * f;
+    (0.29171427 + 1.0349035 * f)
+        + s * ((0.2009936 * f - 0.4836471) + s * (0.0051715622 * f - 0.049134792))
 }
 
-// About the root of m, or of 2m where `twice` says so, as a number of 53 digits: a polynomial and two steps of Newton's method. Nothing is promised of how near it is.
-fn guess(m: u64, twice: bool) -> u64
-    requires { ⌜ (2 ^ 52 ≤ m) × (m < 2 ^ 53) ⌝ }
+// The root of 1, or of 2 where `twice` is 1.
+fn root_of_factor(twice: u64) -> f64 {
+    if twice == 0 {
+        return 1.0;
+    }
+    1.4142135623730951
+}
+
+// A step of Halley's method for the root of f, from y with 25 binary digits after the point, so that its square is exact.
+fn nearer(f: f64, y: f64) -> f64 {
+    let r = y + 201326592.0 - 201326592.0;
+    let s = r * r;
+    r + (f - s) * (r + r) / (3.0 * s + f)
+}
+
+// About the root of m, or of 2m where `twice` is 1, as a number of 53 digits. Nothing is promised of how near it is.
+fn guess(m: u64, twice: u64) -> u64
+    requires { ⌜ (2 ^ 52 ≤ m) × (m < 2 ^ 53) × (twice < 2) ⌝ }
     ensures { λ r. ⌜ (2 ^ 52 ≤ r) × (r < 2 ^ 53) ⌝ }
 {
-    let mut f = f64::from_bits(0x3fe0_0000_0000_0000 + m);
-    let mut y = 0.369956 + f * (0.787923 - f * (0.182748 - f * 0.0249374));
-    if twice {
-        f = f + f;
-        y = y * 1.41421356;
-    }
-    let d = nearer(f, nearer(f, y));
+    let y = about(f64::from_bits(0x3fe0_0000_0000_0000 + m)) * root_of_factor(twice);
+    let d = nearer(
+        f64::from_bits(0x3fe0_0000_0000_0000 + twice * 4503599627370496 + m),
+        y,
+    );
     if d != d {
         return 4503599627370496;
     }
     f64::to_bits(d) % 4503599627370496 + 4503599627370496
 }
 
-// The root of m * 2^n / 2^1126.
+// m, or 2m where `twice` is 1.
+fn scaled(m: u64, twice: u64) -> u64
+    requires { ⌜ (m < 2 ^ 53) × (twice < 2) ⌝ }
+    ensures { λ r. ⌜ (r ≡ m * 2 ^ twice) × (m ≤ r) × (r ≤ 2 * m) ⌝ }
+{
+    if twice == 0 {
+        return m;
+    }
+    m + m
+}
+
+// The root of m * 2^n / 2^1126. No branch is taken on whether n is odd, since the processor cannot foresee it.
 fn root_of(m: u64, n: u64) -> f64
     requires { ⌜ (2 ^ 52 ≤ m) × (m < 2 ^ 53) × (n ≤ 2097) ⌝ }
     ensures { λ r. ⌜ r ≡ rootOf m n ⌝ }
 {
     let d = n / 2 + 485;
-    if n % 2 == 0 {
-        let p = near_root(m, guess(m, false));
-        return f64::from_bits(d * 4503599627370496 + p);
-    }
-    let p = near_root(m * 2, guess(m, true));
+    let twice = n % 2;
+    let p = near_root(scaled(m, twice), guess(m, twice));
     f64::from_bits(d * 4503599627370496 + p)
 }
 
@@ -122,4 +145,42 @@ pub fn sqrt(x: f64) -> f64
         return x;
     }
     0.0 / 0.0
+}
+
+// The digits of an x from 1 to 2, as a whole number, and 0 for another.
+fn digits(x: f64) -> u64
+    ensures { λ r. ⌜ ((r ≡ 0 → ⊥) → FromOne x r) ⌝ }
+{
+    if x != x {
+        return 0;
+    }
+    let w = f64::to_bits(x);
+    if w < 0x3ff0_0000_0000_0000 {
+        return 0;
+    }
+    if 0x4000_0000_0000_0000 <= w {
+        return 0;
+    }
+    w - 0x3fe0_0000_0000_0000
+}
+
+// The square root, and sooner than by `sqrt` where x is from 1 to 2: no digits are moved on the way.
+pub fn sqrt_from_one(x: f64) -> f64
+    ensures { λ r. ⌜ r ≡ sqrt x ⌝ }
+{
+    let m = digits(x);
+    if m == 0 {
+        return sqrt(x);
+    }
+    let d = nearer(x, about(x));
+    let p = digits(d);
+    if p == 0 {
+        return sqrt(x);
+    }
+    if m <= middle(p) {
+        if middle(p - 1) < m {
+            return d;
+        }
+    }
+    sqrt(x)
 }

@@ -7,3 +7,4 @@ pub mod Products
 pub mod Exact
 pub mod Unique
 pub mod Zeros
+pub mod Below

@@ -199,7 +199,7 @@ finite-round : (f : Format) (s : Bool) (a c : ℕ) → finite (round f s a c) �
 finite-round f s a c = ap finite (round-is f s a c) ∙ finite-units f s _ _ ∙ ap finite (sym (round-is f false a c))
 
 -- what is no larger than a finite number is finite
-finite-under : (f : Format) (a c m : ℕ) (e : ℤ) → T (le (round f false a c) (fin false m e)) → finite (round f false a c) ≡ true
+pub finite-under : (f : Format) (a c m : ℕ) (e : ℤ) → T (le (round f false a c) (fin false m e)) → finite (round f false a c) ≡ true
 unfolding units odd finite le lt eq
 finite-under f a c m e h = ap finite (round-is f false a c) ∙ go _ _ (subst (λ (z : Float). T (le z (fin false m e))) (round-is f false a c) h)
   where

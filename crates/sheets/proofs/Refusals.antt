@@ -1,5 +1,5 @@
 -- Every sheet is sound: a refusal writes nothing, and none is refusal 16. Assumes nothing.
-use Prim.Native.Nat.{ℕ, _^_}
+use Prim.Native.Nat.{ℕ, _*_, _^_}
 use mathlib.Core.Path.{_≡_, refl}
 use mathlib.Core.Bool.{false, not, cond}
 use mathlib.Core.List.{List}
@@ -9,9 +9,10 @@ use lib.Ieee.{Float, lt}
 use Rattle.lists.specs.Fold.{fold}
 use Rattle.lists.proofs.Folding.{fold-keeps}
 use Rattle.numbers.specs.Number.{oneF, _-ᶠ_, abs, positive}
+use Rattle.numbers.specs.Word.{wordAt}
 use Rattle.numbers.specs.Slice.{at, numberAt, numbersAt, allFinite}
 use Rattle.refusal.specs.declared.Refusal.{Refusal}
-use Rattle.refusal.specs.declared.Refusal.the-variants.{Shape, NonFinite, InvalidNormalization, InvalidTolerance, Operator, SingularGaugeTransform, SingularProcessDesign, InvalidGstOptimization}
+use Rattle.refusal.specs.declared.Refusal.the-variants.{Shape, NonFinite, InvalidNormalization, InvalidTolerance, Operator, SingularGaugeTransform, SingularProcessDesign, EigensolverDidNotConverge, InvalidGstOptimization}
 use Rattle.refusal.specs.declared.Verdict.{Verdict}
 use Rattle.refusal.specs.declared.Verdict.the-variants.{Good, Refused}
 use Rattle.refusal.specs.Values.{codeOf}
@@ -19,13 +20,19 @@ use Rattle.refusal.specs.Verdicts.{firstOf, after}
 use Rattle.pauli.specs.Density.{densityOf, vetOf, admitted, testedOf, invertedOf}
 use Rattle.inversion.specs.Inversion.{invertible}
 use Rattle.transfer.specs.Vectors.{vectorOf, vettedOf}
+use Rattle.eigen.specs.Jacobi.{Spectrum, spectrum, unknown}
+use Rattle.density.specs.Projection.{spectralNumbers, spectralVerdict, admission, spectrumOf, projectedVerdict}
 use Rattle.transfer.specs.Process.{inputsOf, transferOf, solvedOf, screened, processOf}
+use Rattle.eigen.specs.Jacobi.{Values, values, unknownValues}
+use Rattle.choi.specs.Choi.{choiOf, choiTested}
+use Rattle.positivity.specs.Positivity.{known, toleranceOf, choiValues, positivityVerdict}
 use Rattle.card_layout.specs.declared.Header.{Header}
 use Rattle.card_parts.specs.Model.{stateOf, transformOf}
+use Rattle.model.proofs.Refusals.{lower-model}
 use Rattle.model.specs.Checked.{anyOf, badName, badGate, checkedOf}
 use Rattle.gauge.specs.Gauge.{thresholdOf, invertedOf as gaugeInverted, newModel, gaugedOf}
-use Rattle.outcome.proofs.Refusals.{Sound, Lower, lower-good, lower-refused, lower-either, lower-first, lower-finite, shown-sound}
-use Rattle.sheets.specs.Sheets.{vectorsOf, densitySheet, processSheetOf, gaugeVerdict, gaugeSheet}
+use Rattle.outcome.proofs.Refusals.{Sound, Lower, lower-good, lower-refused, lower-either, lower-first, lower-finite, lower-numbers, shown-sound}
+use Rattle.sheets.specs.Sheets.{vectorsOf, densitySheet, estimateOf, projectedSheet, processSheetOf, physicalOf, gaugeVerdict, gaugeSheet}
 
 -- a test's own refusal, or what follows a verdict
 lower-after : {v w : Verdict} → Lower v → Lower w → Lower (after v Refused w)
@@ -46,6 +53,23 @@ unfolding densitySheet admitted testedOf
 density-sound s n =
     shown-sound _ _ _ (by-tolerance (numberAt s 1) (lower-vet (numberAt s 1) (numbersAt s 2 (4 ^ n))) (lower-finite Operator (densityOf n (numbersAt s 2 (4 ^ n))) (eqb-false 6 16 refl))) refl
 
+lower-spectral : (d : ℕ) (s : Spectrum) → Lower (spectralVerdict d s)
+unfolding spectralVerdict
+lower-spectral d (spectrum w v) = lower-finite Operator (spectralNumbers d (spectrum w v)) (eqb-false 6 16 refl)
+lower-spectral d unknown = lower-refused EigensolverDidNotConverge (eqb-false 12 16 refl)
+
+pub projected-sound : (s : List ℕ) (d : ℕ) → Sound (projectedSheet s d)
+unfolding projectedSheet projectedVerdict admission
+projected-sound s d =
+    let t = numberAt s 1 in
+    let e = estimateOf s d in
+    shown-sound _ _ _
+    (lower-first
+    (lower-either (not (allFinite e)) (lower-refused NonFinite (eqb-false 3 16 refl))
+    (lower-either (not (positive t)) (lower-refused InvalidTolerance (eqb-false 5 16 refl)) lower-good))
+    (lower-spectral d (spectrumOf d t (wordAt s 2) e)))
+    refl
+
 lower-vectors : (t : Float) (v : List Float) (p : ℕ) → Lower (vettedOf t v p)
 unfolding vettedOf
 lower-vectors t v p = fold-keeps _ Lower _ Good lower-good (λ k found _ q. lower-first q (lower-vet t (vectorOf v p k)))
@@ -60,15 +84,18 @@ process-sound s p =
     (lower-either (not (invertible p t (inputsOf v p))) (lower-refused SingularProcessDesign (eqb-false 11 16 refl)) (lower-finite NonFinite (transferOf t v p) (eqb-false 3 16 refl))))
     refl
 
-lower-model : (s : List ℕ) (h : Header) → Lower (checkedOf s h)
-unfolding checkedOf
-lower-model s h =
-    let n = lower-refused NonFinite (eqb-false 3 16 refl) in
-    lower-either (eqb (h .dimension) 0) n
-    (lower-either (not (allFinite (stateOf s h))) n
-    (lower-either (eqb (h .effects) 0) (lower-refused (Shape (h .dimension) 0) (eqb-false 2 16 refl))
-    (lower-either (badGate s h) n
-    (lower-either (anyOf false (h .gates) (badName s h)) (lower-refused (InvalidGstOptimization 6) (eqb-false 13 16 refl)) lower-good))))
+lower-known : (v : Values) → Lower (known v)
+lower-known (values w) = lower-good
+lower-known unknownValues = lower-refused EigensolverDidNotConverge (eqb-false 12 16 refl)
+
+pub physical-sound : (n : ℕ) (t : Float) (rotations : ℕ) (transfer : List Float) → Sound (physicalOf n t rotations transfer)
+unfolding physicalOf positivityVerdict toleranceOf choiTested
+physical-sound n t rotations transfer =
+    shown-sound _ _ _
+    (lower-first (lower-numbers (4 ^ n * 4 ^ n) transfer)
+    (lower-first (lower-either (positive t) lower-good (lower-refused InvalidTolerance (eqb-false 5 16 refl)))
+    (lower-first (lower-finite Operator (choiOf n transfer) (eqb-false 6 16 refl)) (lower-known (choiValues n t rotations transfer)))))
+    refl
 
 pub gauge-sound : (s : List ℕ) (h : Header) → Sound (gaugeSheet s h)
 unfolding gaugeSheet gaugeVerdict gaugedOf gaugeInverted

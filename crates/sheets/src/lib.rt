@@ -1,19 +1,23 @@
 // The sheets of the kinds that are built, each of a card of its kind.
 use card_layout::Header;
 use outcome::Answer;
+use positivity::Positivity;
 use refusal::Verdict;
 use sizes::four_to;
 use sizes::square;
 ghost use mathlib.Core.Path.{_≡_};
+ghost use mathlib.Core.List.{List};
 ghost use Prim.Native.Nat.{ℕ, _+_, _*_, _^_, _≤_, _<_};
 ghost use lib.ListN.{length};
 ghost use Rattle.lists.specs.Build.{over};
+ghost use Rattle.numbers.specs.Word.{wordAt};
 ghost use Rattle.numbers.specs.Slice.{numberAt, numbersAt};
 ghost use Rattle.pauli.specs.Density.{invertedOf};
+ghost use Rattle.density.specs.Projection.{projectedVerdict};
 ghost use Rattle.transfer.specs.Process.{processOf};
 ghost use Rattle.card_places.specs.Shape.{Shaped};
 ghost use Rattle.outcome.specs.Outcome.{Gives};
-ghost use Rattle.sheets.specs.Sheets.{vectorsOf, densityNumbers, transferNumbers, densitySheet, processSheet, gaugeVerdict, gaugeNumbers, gaugeSheet};
+ghost use Rattle.sheets.specs.Sheets.{vectorsOf, densityNumbers, estimateOf, projectionNumbers, transferNumbers, densitySheet, projectedSheet, processSheet, physicalOf, physicalSheet, gaugeVerdict, gaugeNumbers, gaugeSheet};
 
 // Word 1 of the kinds that have a tolerance there.
 fn tolerance_of(card: &[u8]) -> f64
@@ -59,6 +63,42 @@ pub fn density_sheet(card: &[u8], n: usize, result: &mut [u64], work: &mut [f64]
     }
 }
 
+// Room for the parts of an estimate.
+fn estimate_room() -> [f64; 512]
+    ensures { λ r. ⌜ 512 ≡ length r ⌝ }
+{
+    [0.0; 512]
+}
+
+// Projects the estimate; the density matrix goes to the front of the work slice.
+fn project(card: &[u8], d: usize, work: &mut [f64]) -> Verdict
+    requires { ⌜ (1 ≤ d) × (d ≤ 16) × ((3 + 2 * (d * d)) * 8 ≤ length (now card)) × (8192 ≤ length (now work)) ⌝ }
+    ensures { λ r. ⌜ (r ≡ projectedVerdict d (numberAt (now (card .entry)) 1) (wordAt (now (card .entry)) 2) (estimateOf (now (card .entry)) d)) × (now (work .exit) ≡ over (projectionNumbers (now (card .entry)) d) (now (work .entry))) ⌝ }
+{
+    let count = 2 * square(d);
+    let mut estimate = estimate_room();
+    numbers::load(card, 3, count, &mut estimate);
+    let most = numbers::word_at(card, 2);
+    density::project_density(&estimate[..count], d, tolerance_of(card), most, work)
+}
+
+// Kind 2.
+pub fn projected_sheet(card: &[u8], d: usize, result: &mut [u64], work: &mut [f64]) -> Answer
+    requires { ⌜ (1 ≤ d) × (d ≤ 16) × ((3 + 2 * (d * d)) * 8 ≤ length (now card)) × (4096 ≤ length (now result)) × (8192 ≤ length (now work)) ⌝ }
+    ensures { λ r. ⌜ Gives (projectedSheet (now (card .entry)) d) (now (result .entry)) (now (result .exit)) r × (now (work .exit) ≡ over (projectionNumbers (now (card .entry)) d) (now (work .entry))) ⌝ }
+{
+    let found = project(card, d, work);
+    match found {
+        Verdict::Refused(r) => Answer::Refused(r),
+        Verdict::Good => {
+            numbers::emit(work, 2 * square(d), result);
+            Answer::Projected {
+                dimension: d as u64,
+            }
+        }
+    }
+}
+
 // Room for the inputs and outputs of up to two qubits.
 fn vectors_room() -> [f64; 512]
     ensures { λ r. ⌜ 512 ≡ length r ⌝ }
@@ -91,6 +131,42 @@ pub fn process_sheet(card: &[u8], n: usize, result: &mut [u64], work: &mut [f64]
             Answer::Process { size: p as u64 }
         }
     }
+}
+
+// Room for the transfer values of up to two qubits.
+fn transfer_room() -> [f64; 256]
+    ensures { λ r. ⌜ 256 ≡ length r ⌝ }
+{
+    [0.0; 256]
+}
+
+// The three tests of a transfer matrix, of p by p values. They write no number, so that any result stays as it is.
+fn test_transfer(n: usize, p: usize, transfer: &[f64], tolerance: f64, rotations: u64) -> Answer
+    requires { ⌜ (1 ≤ n) × (n ≤ 2) × (p ≡ 4 ^ n) × (length (now transfer) ≡ p * p) ⌝ }
+    ensures { λ r. ⌜ ((l : List ℕ) → Gives (physicalOf n tolerance rotations (now (transfer .entry))) l l r) ⌝ }
+{
+    let found = positivity::is_completely_positive(n, transfer, tolerance, rotations);
+    match found {
+        Positivity::Refused(r) => Answer::Refused(r),
+        Positivity::Known(completely_positive) => Answer::Physical {
+            trace_preserving: physical::is_trace_preserving(transfer, p, tolerance),
+            unital: physical::is_unital(transfer, p, tolerance),
+            completely_positive,
+        },
+    }
+}
+
+// Kind 4.
+pub fn physical_sheet(card: &[u8], n: usize) -> Answer
+    requires { ⌜ (1 ≤ n) × (n ≤ 2) × ((3 + 4 ^ n * 4 ^ n) * 8 ≤ length (now card)) ⌝ }
+    ensures { λ r. ⌜ ((l : List ℕ) → Gives (physicalSheet (now (card .entry)) n) l l r) ⌝ }
+{
+    let p = four_to(n);
+    let count = square(p);
+    let mut transfer = transfer_room();
+    numbers::load(card, 3, count, &mut transfer);
+    let rotations = numbers::word_at(card, 2);
+    test_transfer(n, p, &transfer[..count], tolerance_of(card), rotations)
 }
 
 // Checks the model and transforms it; the new model's numbers go to the front of the work slice.

@@ -1,2 +1,2 @@
 pub mod Exact
-mod Pattern
+pub mod Pattern

@@ -1,3 +1,3 @@
-pub mod Order
 pub mod Inserting
 pub mod Ordered
+pub mod Arranged

@@ -1,9 +1,10 @@
-// The stable ascending sort of numbers: their order, as indices.
+// The stable sort of numbers, rising or falling: their order, as indices, and the sorted numbers.
 ghost use mathlib.Core.Path.{_≡_};
-ghost use Prim.Native.Nat.{_+_, _*_, _≤_, _<_};
+ghost use Prim.Native.Nat.{ℕ, _≤_, _<_};
 ghost use lib.ListN.{length, getD, take};
+ghost use Rattle.lists.specs.Build.{build};
 ghost use Rattle.numbers.specs.Slice.{at};
-ghost use Rattle.sorting.specs.Sort.{orderOf};
+ghost use Rattle.sorting.specs.Sort.{before, orderBy, sortedBy};
 ghost use Rattle.sorting.specs.Steps.{shift, shifted, inserted};
 
 // The index in hand, and whether the number to insert is put down.
@@ -22,10 +23,20 @@ fn number_at(w: &[f64], i: usize) -> f64
     0.0 / 0.0
 }
 
+// Whether x comes before y.
+fn comes_first(falling: bool, x: f64, y: f64) -> bool
+    ensures { λ r. ⌜ r ≡ before falling x y ⌝ }
+{
+    if falling {
+        return numbers::comes_before(y, x);
+    }
+    numbers::comes_before(x, y)
+}
+
 // Place i of the order, against what is in hand.
-fn shift_one(w: &[f64], order: &mut [usize], i: usize, h: Hand) -> Hand
+fn shift_one(falling: bool, w: &[f64], order: &mut [usize], i: usize, h: Hand) -> Hand
     requires { ⌜ i < length (now order) ⌝ }
-    ensures { λ r. ⌜ shift (now (order .exit)) r ≡ shifted (now (w .entry)) i (shift (now (order .entry)) h) ⌝ }
+    ensures { λ r. ⌜ shift (now (order .exit)) r ≡ shifted falling (now (w .entry)) i (shift (now (order .entry)) h) ⌝ }
 {
     let j = order[i];
     if h.down {
@@ -35,7 +46,7 @@ fn shift_one(w: &[f64], order: &mut [usize], i: usize, h: Hand) -> Hand
             down: true,
         };
     }
-    if numbers::comes_before(number_at(w, h.index), number_at(w, j)) {
+    if comes_first(falling, number_at(w, h.index), number_at(w, j)) {
         order[i] = h.index;
         return Hand {
             index: j,
@@ -46,26 +57,47 @@ fn shift_one(w: &[f64], order: &mut [usize], i: usize, h: Hand) -> Hand
 }
 
 // Inserts number k into the order of those before it.
-fn insert(w: &[f64], order: &mut [usize], k: usize)
+fn insert(falling: bool, w: &[f64], order: &mut [usize], k: usize)
     requires { ⌜ k < length (now order) ⌝ }
-    ensures { λ _. ⌜ now (order .exit) ≡ inserted (now (w .entry)) k (now (order .entry)) ⌝ }
+    ensures { λ _. ⌜ now (order .exit) ≡ inserted falling (now (w .entry)) k (now (order .entry)) ⌝ }
 {
     let mut h = Hand {
         index: k,
         down: false,
     };
     for i in 0..k {
-        h = shift_one(w, order, i, h);
+        h = shift_one(falling, w, order, i, h);
     }
     order[k] = h.index;
 }
 
 // The order of the first n numbers of w.
-pub fn sort(w: &[f64], n: usize, order: &mut [usize])
+fn sort(falling: bool, w: &[f64], n: usize, order: &mut [usize])
     requires { ⌜ n ≤ length (now order) ⌝ }
-    ensures { λ _. ⌜ take n (now (order .exit)) ≡ orderOf (now (w .entry)) n ⌝ }
+    ensures { λ _. ⌜ take n (now (order .exit)) ≡ orderBy falling (now (w .entry)) n ⌝ }
 {
     for k in 0..n {
-        insert(w, order, k);
+        insert(falling, w, order, k);
     }
+}
+
+// The numbers of w in this order.
+fn values(w: &[f64], order: &[usize], s: &mut [f64])
+    requires { ⌜ (length (now s) ≤ length (now order)) × ((k : ℕ) → k < length (now s) → getD (now order) k 0 < length (now w)) ⌝ }
+    ensures { λ _. ⌜ now (s .exit) ≡ build (length (now (s .entry))) (λ k. at (now (w .entry)) (getD (now (order .entry)) k 0)) ⌝ }
+{
+    let n = s.len();
+    for k in 0..n {
+        let i = order[k];
+        s[k] = w[i];
+    }
+}
+
+// The order of the numbers of w, and the numbers in it, into s.
+pub fn arrange(falling: bool, w: &[f64], order: &mut [usize], s: &mut [f64])
+    requires { ⌜ (length (now order) ≡ length (now w)) × (length (now s) ≡ length (now w)) ⌝ }
+    ensures { λ _. ⌜ (now (order .exit) ≡ orderBy falling (now (w .entry)) (length (now (w .entry)))) × (now (s .exit) ≡ sortedBy falling (now (w .entry))) ⌝ }
+{
+    sort(falling, w, w.len(), order);
+    values(w, order, s);
 }

@@ -1,13 +1,14 @@
 -- What the promise says of refusals: the sheet of a card is sound, so that one writes no word of the result, and 16 is given in its case and in no other.
 -- Assumes nothing.
-use Prim.Native.Nat.{ℕ, _^_}
+use Prim.Native.Nat.{ℕ, _*_, _^_}
 use mathlib.Core.Path.{_≡_, refl}
 use mathlib.Core.Bool.{Bool, true, false, cond}
 use mathlib.Core.List.{List}
 use borrow.Author.Tests.{eqb-false}
 use lib.Dec.{eqb}
 use lib.Ieee.{Float}
-use Rattle.numbers.specs.Word.{wordsIn}
+use Rattle.numbers.specs.Word.{wordsIn, wordAt}
+use Rattle.numbers.specs.Slice.{numberAt, numbersAt}
 use Rattle.refusal.specs.declared.Refusal.{Refusal}
 use Rattle.refusal.specs.declared.Refusal.the-variants.{InvalidQubits, Shape, InvalidCard, ShortBuffer}
 use Rattle.refusal.specs.Values.{codeOf}
@@ -23,8 +24,9 @@ use Rattle.outcome.specs.declared.Answer.the-variants.{Refused}
 use Rattle.outcome.specs.Outcome.{roomy}
 use Rattle.outcome.proofs.Refusals as outcome
 use Rattle.outcome.proofs.Refusals.{Sound, other, either}
-use Rattle.sheets.proofs.Refusals.{density-sound, process-sound, gauge-sound}
-use Rattle.tomography.specs.Sheet.{kindSheet, readSheet, built, sheetOf, Sheet}
+use Rattle.gst_sheets.proofs.Refusals.{diagnostics-sound}
+use Rattle.sheets.proofs.Refusals.{density-sound, projected-sound, process-sound, physical-sound, gauge-sound}
+use Rattle.tomography.specs.Sheet.{modelSheet, kindSheet, readSheet, built, sheetOf, Sheet}
 
 -- none of the reader's refusals is 16
 abbrev Reads : Reading → Type 0
@@ -42,13 +44,21 @@ reads s = go (faultOf s) (qubitsBreak (header s)) (eqb (wantedWords (header s)) 
     go Nothing false true = tt
     go Nothing false false = eqb-false 2 16 refl
 
+models : (s : List ℕ) (h : Header) → Sound (modelSheet s h)
+unfolding modelSheet
+models s h =
+    either (eqb (h .kind) 6) (gauge-sound s h)
+    (either (eqb (h .kind) 7) (diagnostics-sound s h)
+    (other (InvalidCard 0) (eqb-false 15 16 refl)))
+
 kinds : (s : List ℕ) (h : Header) → Sound (kindSheet s h)
 unfolding kindSheet
 kinds s h =
     either (eqb (h .kind) 1) (density-sound s (h .qubits))
+    (either (eqb (h .kind) 2) (projected-sound s (h .dimension))
     (either (eqb (h .kind) 3) (process-sound s (4 ^ h .qubits))
-    (either (eqb (h .kind) 6) (gauge-sound s h)
-    (other (InvalidCard 0) (eqb-false 15 16 refl))))
+    (either (eqb (h .kind) 4) (physical-sound (h .qubits) (numberAt s 1) (wordAt s 2) (numbersAt s 3 (4 ^ h .qubits * 4 ^ h .qubits)))
+    (models s h))))
 
 after-reading : (s : List ℕ) (r : Reading) → Reads r → Sound (readSheet s r)
 after-reading s (read.Accepted h) f = kinds s h

@@ -10,7 +10,22 @@ ghost use lib.ListN.{length};
 ghost use Rattle.card.specs.Reading.{readOf};
 ghost use Rattle.card.specs.declared.Reading.the-variants.{Accepted};
 ghost use Rattle.outcome.specs.Outcome.{Gives, inRoom};
-ghost use Rattle.tomography.specs.Sheet.{kindBuilt, kindSheet, built, sheetOf, Sheet};
+ghost use Rattle.tomography.specs.Sheet.{kindBuilt, modelSheet, kindSheet, built, sheetOf, Sheet};
+
+// A card with a model that the reader accepts.
+fn run_model(card: &[u8], h: Header, result: &mut [u64], work: &mut [f64]) -> Answer
+    requires { ⌜ (readOf (now card) ≡ Accepted h) × (4096 ≤ length (now result)) × (8192 ≤ length (now work)) ⌝ }
+    ensures { λ r. ⌜ Gives (modelSheet (now (card .entry)) h) (now (result .entry)) (now (result .exit)) r ⌝ }
+{
+    let kind = h.kind;
+    if kind == 6 {
+        return sheets::gauge_sheet(card, h, result, work);
+    }
+    if kind == 7 {
+        return gst_sheets::diagnostics_sheet(card, h, result);
+    }
+    Answer::Refused(Refusal::InvalidCard(0))
+}
 
 // A card that the reader accepts.
 fn run_kind(card: &[u8], h: Header, result: &mut [u64], work: &mut [f64]) -> Answer
@@ -22,25 +37,22 @@ fn run_kind(card: &[u8], h: Header, result: &mut [u64], work: &mut [f64]) -> Ans
     if kind == 1 {
         return sheets::density_sheet(card, n, result, work);
     }
+    if kind == 2 {
+        return sheets::projected_sheet(card, h.dimension, result, work);
+    }
     if kind == 3 {
         return sheets::process_sheet(card, n, result, work);
     }
-    if kind == 6 {
-        return sheets::gauge_sheet(card, h, result, work);
+    if kind == 4 {
+        return sheets::physical_sheet(card, n);
     }
-    Answer::Refused(Refusal::InvalidCard(0))
+    run_model(card, h, result, work)
 }
 
 fn is_kind_built(kind: usize) -> bool
     ensures { λ r. ⌜ r ≡ kindBuilt kind ⌝ }
 {
-    if kind == 1 {
-        return true;
-    }
-    if kind == 3 {
-        return true;
-    }
-    kind == 6
+    kind != 5
 }
 
 fn is_built(card: &[u8]) -> bool

@@ -21,7 +21,7 @@ pub struct Turn {
 fn tangent(tau: f64) -> f64
     ensures { λ r. ⌜ r ≡ spec.tangent tau ⌝ }
 {
-    let root = root::sqrt(1.0 + tau * tau);
+    let root = root::sqrt_from_one(1.0 + tau * tau);
     if 0.0 <= tau {
         return 1.0 / (tau + root);
     }
@@ -39,7 +39,7 @@ pub fn turn_of(a: &[f64], n: usize, g: Pivot) -> Turn
     let app = entries::read(a, n, p, p).re;
     let aqq = entries::read(a, n, q, q).re;
     let t = tangent((aqq - app) / (2.0 * best));
-    let c = 1.0 / root::sqrt(1.0 + t * t);
+    let c = 1.0 / root::sqrt_from_one(1.0 + t * t);
     let s = t * c;
     let phase = entries::read(a, n, p, q).divided(best);
     Turn {

@@ -94,6 +94,14 @@ fn large(kind: u8) -> Vec<Vec<u64>> {
             list.push(fixed::process(2, 1e-9, &outputs.concat(), &probes.concat()));
             list.push(fixed::process(2, 1e-9, &vec![1.0; 256], &probes.concat()));
         }
+        4 => {
+            let values: Vec<f64> =
+                (0..256).map(|k| if k % 17 == 0 { 0.9 } else { 0.01 * rng.signed() }).collect();
+            list.push(fixed::physical(2, 1e-9, 16_384, &values));
+            list.push(fixed::physical(2, 1e-9, 40, &values));
+            let wild: Vec<f64> = (0..256).map(|_| rng.signed()).collect();
+            list.push(fixed::physical(2, 1e-12, 16_384, &wild));
+        }
         6 => {
             let model = fixed::model_of_size(16, 4, 2, &mut rng);
             let mut near_one = fixed::diagonal(&[1.0; 16]);

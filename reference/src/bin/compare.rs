@@ -1,13 +1,13 @@
 //! Compares the port with the Rust: `compare COUNT SEED [GROUP..]`.
 //!
-//! A group is a kind (1 to 7) of the sheet entry, `read`, a library entry (`probes`, `setting`, `apply`), `sqrt` or `ln`;
-//! without one all are run. Each has its fixed cards or calls and COUNT random ones; `sqrt` and `ln` have fixed numbers and
-//! 100 times COUNT random ones. Then the cases are counted that kinds 3 and 6 and the library entries met. The exit status
+//! A group is a kind (1 to 7) of the sheet entry, `read`, a library entry (`probes`, `setting`, `apply`, `choi`), `sqrt` or
+//! `ln`; without one all are run. Each has its fixed cards or calls and COUNT random ones; `sqrt` and `ln` have fixed numbers and
+//! 100 times COUNT random ones. Then the cases are counted that kinds 3, 4 and 6 and the library entries met. The exit status
 //! is 1 if anything differs.
 
 use reference::card::{self, bytes_of, Refusal};
 use reference::cases::{self, Cases};
-use reference::hooks::with_pivots;
+use reference::hooks::with_notes;
 use reference::library::Call;
 use reference::ln::ln;
 use reference::makers::{self, arguments, calls, fixed};
@@ -23,12 +23,12 @@ use std::process::ExitCode;
 const GUARD: usize = 16;
 const SHOWN: usize = 5;
 
-const USAGE: &str = "compare COUNT SEED [1..7 | read | probes | setting | apply | sqrt | ln]..
+const USAGE: &str = "compare COUNT SEED [1..7 | read | probes | setting | apply | choi | sqrt | ln]..
   COUNT random cards for each kind and for read, COUNT random calls for each library entry,
   100 times COUNT random numbers for sqrt and for ln";
-const GROUPS: [&str; 13] =
-    ["1", "2", "3", "4", "5", "6", "7", "read", "probes", "setting", "apply", "sqrt", "ln"];
-const ENTRIES: [&str; 3] = ["probes", "setting", "apply"];
+const GROUPS: [&str; 14] =
+    ["1", "2", "3", "4", "5", "6", "7", "read", "probes", "setting", "apply", "choi", "sqrt", "ln"];
+const ENTRIES: [&str; 4] = ["probes", "setting", "apply", "choi"];
 
 /// Random numbers of `sqrt` and `ln` for each random card of another group.
 const NUMBERS_PER_COUNT: u64 = 100;
@@ -267,8 +267,8 @@ impl Compare {
         let outcome = if lent.short() {
             Outcome::Refused(Refusal::new(16, 0, 0))
         } else {
-            let (outcome, pivots) = with_pivots(|| sheet::built_outcome(bytes));
-            self.count_cases(&format!("kind {kind}"), cases::of_card(bytes, &outcome, &pivots));
+            let (outcome, notes) = with_notes(|| sheet::built_outcome(bytes));
+            self.count_cases(&format!("kind {kind}"), cases::of_card(bytes, &outcome, &notes));
             outcome
         };
         let kept = check_kept("card", &self.card[shift..], bytes);
@@ -308,6 +308,14 @@ impl Compare {
                 let returned = port::apply(*n, values, input, result, work, answer);
                 let after: Vec<u64> = black_box(&whole).iter().map(|x| x.to_bits()).collect();
                 (returned, check_kept("values and input", &after, &bits))
+            }
+            Call::Choi { n, values } => {
+                let beyond = [f64::NAN; GUARD];
+                let whole = [&beyond, &values[..], &beyond].concat();
+                let bits: Vec<u64> = whole.iter().map(|x| x.to_bits()).collect();
+                let returned = port::choi(*n, &whole[GUARD..][..values.len()], result, work, answer);
+                let after: Vec<u64> = black_box(&whole).iter().map(|x| x.to_bits()).collect();
+                (returned, check_kept("values", &after, &bits))
             }
             other => (port::call(other, result, work, answer), Ok(())),
         };

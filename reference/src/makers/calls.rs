@@ -1,10 +1,11 @@
 //! Library calls to try.
 
+use super::fixed::diagonal;
 use super::numbers::{self, power};
 use crate::library::Call;
 use crate::random::Rng;
 
-/// Qubits that are refused by every entry, some of them 1 or 2 in a narrower integer; 3 is refused by `apply` alone.
+/// Qubits that are refused by every entry, some of them 1 or 2 in a narrower integer; 3 is refused by `apply` and `choi` alone.
 const WRONG_QUBITS: &[u64] = &[
     0,
     4,
@@ -66,6 +67,7 @@ pub fn call(entry: &str, rng: &mut Rng) -> Call {
             Call::Setting { n, index }
         }
         "apply" => apply(rng),
+        "choi" => choi(rng),
         _ => panic!("no entry {entry}"),
     }
 }
@@ -138,6 +140,21 @@ fn apply(rng: &mut Rng) -> Call {
     Call::Apply { n, values, input }
 }
 
+fn choi(rng: &mut Rng) -> Call {
+    let n = qubits(rng, 2);
+    let p = 1usize << (2 * n.clamp(1, 3));
+    let mut values = any_numbers(p * p, rng);
+    for _ in 0..rng.pick(&[0, 0, 0, 0, 0, 0, 0, 1, 1, 2]) {
+        if rng.chance(50) {
+            values.resize(wrong_length(values.len().max(1), rng), rng.signed());
+        } else if !values.is_empty() {
+            let place = rng.index(values.len());
+            values[place] = f64::from_bits(rng.pick(NON_FINITE));
+        }
+    }
+    Call::Choi { n, values }
+}
+
 /// The calls of this entry that are always tried.
 pub fn fixed(entry: &str) -> Vec<Call> {
     let qubits = || WRONG_QUBITS.iter().copied().chain(1..=3);
@@ -147,6 +164,7 @@ pub fn fixed(entry: &str) -> Vec<Call> {
             qubits().flat_map(|n| indices(n).into_iter().map(move |index| Call::Setting { n, index })).collect()
         }
         "apply" => fixed_apply(),
+        "choi" => fixed_choi(),
         _ => panic!("no entry {entry}"),
     }
 }
@@ -210,6 +228,45 @@ fn fixed_apply() -> Vec<Call> {
     list
 }
 
+fn fixed_choi() -> Vec<Call> {
+    let mut rng = Rng::new(1);
+    let mut list = Vec::new();
+    for &n in WRONG_QUBITS.iter().chain(&[3]) {
+        for p in [0usize, 1, 4, 16, 64] {
+            list.push(Call::Choi { n, values: vec![0.5; p * p] });
+            list.push(Call::Choi { n, values: vec![f64::NAN; p * p + 1] });
+        }
+    }
+    for n in 1..=2 {
+        let p = 1usize << (2 * n);
+        let values: Vec<f64> = (0..p * p).map(|_| rng.signed()).collect();
+        let mut put = |values: &[f64]| list.push(Call::Choi { n, values: values.to_vec() });
+        put(&values);
+        // A single one shows the strings of its row and column.
+        for place in 0..p * p {
+            for x in [1.0, -1.0, f64::MAX, 5e-324] {
+                let mut one = vec![0.0; p * p];
+                one[place] = x;
+                put(&one);
+            }
+        }
+        for bits in numbers::SPECIALS.iter().chain(NON_FINITE) {
+            let x = f64::from_bits(*bits);
+            for place in 0..p * p {
+                let mut changed = values.clone();
+                changed[place] = x;
+                put(&changed);
+            }
+            put(&vec![x; p * p]);
+        }
+        for length in (0..=p * p + 2).chain([4 * p * p, 4096, 8192]) {
+            put(&vec![0.5; length]);
+            put(&vec![f64::NAN; length]);
+        }
+    }
+    list
+}
+
 /// The calls that are stored: every refusal but 16, and accepted ones with zeros, infinities and NaNs in the result.
 pub fn stored() -> Vec<Call> {
     let mut rng = Rng::new(2026);
@@ -266,6 +323,34 @@ pub fn stored() -> Vec<Call> {
             negative_zero_rows(&mut values, &input, &mut rng);
         }
         put(1, values, input);
+    }
+    let mut put = |n: u64, values: Vec<f64>| list.push(Call::Choi { n, values });
+    for n in [0, 3, u64::MAX] {
+        put(n, vec![nan; 16]);
+    }
+    for length in [0, 15, 17, 256] {
+        put(1, vec![nan; length]);
+    }
+    put(2, vec![0.5; 16]);
+    for x in [nan, f64::INFINITY, f64::NEG_INFINITY] {
+        for place in [0, 15] {
+            let mut values = vec![0.5; 16];
+            values[place] = x;
+            put(1, values);
+        }
+    }
+    for values in [[1.0, 1.0, 1.0, 1.0], [1.0, 1.0, -1.0, 1.0], [-0.0; 4], [tiny; 4], [max; 4]] {
+        put(1, diagonal(&values));
+    }
+    put(1, vec![max; 16]);
+    put(1, vec![-tiny; 16]);
+    put(1, [power(60), 1.0, -power(60), 1.0].repeat(4));
+    for n in [1, 1, 2] {
+        let p = 1 << (2 * n);
+        put(n, (0..p * p).map(|_| rng.signed()).collect());
+    }
+    for _ in 0..6 {
+        put(1, any_numbers(16, &mut rng));
     }
     list
 }

@@ -442,6 +442,64 @@ fn process_edges() -> Vec<Vec<u64>> {
     list
 }
 
+fn physical_edges() -> Vec<Vec<u64>> {
+    let mut list = Vec::new();
+    let mut rng = Rng::new(4);
+    let max = f64::MAX;
+    for x in [0.25, 0.25 + power(-54), max, f64::INFINITY, f64::NAN, -0.25] {
+        let mut values = diagonal(&[1.0, 1.0, 1.0, 1.0]);
+        for place in [1, 4, 15] {
+            values[place] = x;
+            for rotations in [0, 1, 2, 1024] {
+                list.push(physical(1, 0.25, rotations, &values));
+            }
+        }
+    }
+    // Each number beside faults of the values: 3 comes before 5, and 5 before 12.
+    for &bits in numbers::SPECIALS {
+        let x = f64::from_bits(bits);
+        for values in [diagonal(&[1.0; 4]), diagonal(&[1.0, 0.5, 0.0, f64::NAN]), vec![0.0; 16], vec![x; 16]] {
+            for rotations in [0, 1, 1024] {
+                list.push(physical(1, x, rotations, &values));
+                list.push(physical(1, 0.5, rotations, &values));
+            }
+        }
+    }
+    for n in 1..=2 {
+        let p = 1usize << (2 * n);
+        let most = 64 * (p * p) as u64;
+        let usual = physical(n, 1e-9, most, &diagonal(&vec![1.0; p]));
+        with_each(&mut list, &usual, 3..usual.len(), &FAULTS);
+        // The first row and column at the tolerance, and beside it.
+        let tolerance = 1e-9f64;
+        let around = [tolerance, tolerance.next_up(), tolerance.next_down(), -tolerance, -tolerance.next_up()];
+        with_each(&mut list, &usual, (1..p).map(|k| 3 + k), &around.map(f64::to_bits));
+        with_each(&mut list, &usual, (1..p).map(|k| 3 + k * p), &around.map(f64::to_bits));
+        with_each(&mut list, &usual, 3..4, &[1.0 + tolerance, 1.0 - tolerance, 1.0 + 2.0 * tolerance].map(f64::to_bits));
+        // Transposition and its neighbours: an eigenvalue of minus one half, and rotations around what it needs.
+        let sign = |k: usize| if (0..n).filter(|q| k >> (2 * q) & 3 == 2).count() % 2 == 1 { -1.0 } else { 1.0 };
+        let transposed = diagonal(&(0..p).map(sign).collect::<Vec<f64>>());
+        for tolerance in [0.5, 0.5f64.next_up(), 0.5f64.next_down(), 0.25, 0.25f64.next_up(), 0.25f64.next_down(), 1e-300] {
+            for rotations in (0..12).chain([most]) {
+                list.push(physical(n, tolerance, rotations, &transposed));
+            }
+        }
+        let mut values: Vec<f64> = (0..p * p).map(|_| rng.signed()).collect();
+        for rotations in (0..3 * p as u64).chain([most]) {
+            list.push(physical(n, 1e-3, rotations, &values));
+        }
+        for size in [power(60), max, max / 2.0, power(-1074), power(-1022)] {
+            values.iter_mut().for_each(|x| *x = size * x.signum() * rng.pick(&[1.0, 1.0, 0.5]));
+            for rotations in [1, 2, most] {
+                list.push(physical(n, 1e-9, rotations, &values));
+            }
+            list.push(physical(n, 1e-9, most, &vec![size; p * p]));
+        }
+    }
+    list.push(physical(1, f64::NAN, 0, &[0.0; 16]));
+    list
+}
+
 /// A model of any size with numbers that are all different.
 pub fn model_of_size(d: usize, effects: usize, gates: usize, rng: &mut Rng) -> Parts {
     let mut numbers = |count: usize| (0..count).map(|_| 0.5 * rng.signed()).collect::<Vec<f64>>();
@@ -567,18 +625,7 @@ fn other_edges(kind: u8) -> Vec<Vec<u64>> {
             }
         }
         3 => list = process_edges(),
-        4 => {
-            for x in [0.25, 0.25 + power(-54), f64::MAX, f64::INFINITY, f64::NAN, -0.25] {
-                let mut values = diagonal(&[1.0, 1.0, 1.0, 1.0]);
-                for place in [1, 4, 15] {
-                    values[place] = x;
-                    for rotations in [0, 1, 2, 1024] {
-                        list.push(physical(1, 0.25, rotations, &values));
-                    }
-                }
-            }
-            list.push(physical(1, f64::NAN, 0, &[0.0; 16]));
-        }
+        4 => list = physical_edges(),
         5 => {
             let model = small_model();
             let records = [record(&[0, 1, 0], &[5, 3, 2]), record(&[], &[4, 1, 1])];

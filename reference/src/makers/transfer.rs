@@ -3,9 +3,9 @@
 use super::numbers::{self, power};
 use super::{least_rotations, words_of};
 use crate::card::Head;
-use crate::hooks::with_pivots;
+use crate::hooks::{with_notes, with_pivots, with_rotations};
 use crate::random::Rng;
-use crate::tomography::{process_linear_inversion, product_probe_expectations};
+use crate::tomography::{process_linear_inversion, product_probe_expectations, PauliTransferMatrix};
 
 /// Input vectors in one of many styles, every first entry 1.
 fn input_vectors(n: usize, style: u64, rng: &mut Rng) -> Vec<Vec<f64>> {
@@ -153,11 +153,63 @@ pub fn process(rng: &mut Rng) -> Vec<u64> {
     words
 }
 
+/// Values by which the Choi matrix has equal eigenvalues, ties, or numbers at either end of the range.
+fn tested_values(n: usize, rng: &mut Rng) -> Vec<f64> {
+    let p = 1usize << (2 * n);
+    match rng.below(16) {
+        // A mixture of Pauli operations: its weights are the eigenvalues.
+        0..=2 => {
+            let weights: Vec<f64> = (0..p).map(|_| rng.pick(&[0.0, 0.0, 0.25, 0.5, 1.0, -0.25])).collect();
+            let commutes = |a: usize, b: usize| {
+                let differ = |shift: usize| {
+                    let (x, y) = (a >> shift & 3, b >> shift & 3);
+                    x != 0 && y != 0 && x != y
+                };
+                (0..n).filter(|k| differ(2 * k)).count() % 2 == 0
+            };
+            let of = |b: usize| (0..p).map(|a| if commutes(a, b) { weights[a] } else { -weights[a] }).sum();
+            super::fixed::diagonal(&(0..p).map(of).collect::<Vec<f64>>())
+        }
+        3 => (0..p * p).map(|_| numbers::scaled(rng, -1074, -1010)).collect(),
+        4 => (0..p * p).map(|_| rng.pick(&[power(60), -power(60), 1.0, -1.0, 0.0])).collect(),
+        5 => (0..p * p).map(|_| numbers::scaled(rng, 1000, 1023)).collect(),
+        6 => (0..p * p).map(|_| rng.signed() * power(1023) * 1.9).collect(),
+        7 => (0..p * p).map(|_| if rng.chance(85) { 0.0 } else { numbers::grid(rng) }).collect(),
+        _ => transfer_values(n, rng),
+    }
+}
+
+/// A tolerance at which an eigenvalue stands, or one float beside it; or the largest entry at its limit.
+fn tolerance_at_eigenvalue(n: usize, values: &[f64], rng: &mut Rng) -> Option<f64> {
+    let transfer = PauliTransferMatrix::try_new(n, values.to_vec()).ok()?;
+    let run = |t: f64| with_notes(|| with_rotations(64 << (4 * n), || transfer.is_completely_positive(t))).1;
+    let good = |t: f64| t.is_finite() && t > 0.0;
+    if rng.chance(30) {
+        // The scale is a limit over its tolerance of 1.
+        let turns = run(1.0).turns.into_iter().chain(run(power(-40)).turns);
+        let list: Vec<(f64, f64)> = turns.map(|turn| (turn.best, turn.limit)).collect();
+        let scale = list.first()?.1;
+        let near = rng.pick(&list).0 / scale;
+        return Some([near, near.next_up(), near.next_down()][rng.index(3)]).filter(|&t| good(t));
+    }
+    // The tolerance changes how far the rotations go, so it is looked for in a few steps.
+    let mut tolerance = 0.25;
+    for _ in 0..3 {
+        let least = run(tolerance).eigenvalues.into_iter().filter(|x| x.is_finite() && *x < 0.0);
+        let least: Vec<f64> = least.collect();
+        tolerance = -*least.get(rng.index(least.len().max(1)))?;
+    }
+    Some([tolerance, tolerance.next_up(), tolerance.next_down()][rng.index(3)]).filter(|&t| good(t))
+}
+
 pub fn physical(rng: &mut Rng) -> Vec<u64> {
     let n = rng.pick(&[1, 1, 1, 2]);
     let p = 1usize << (2 * n);
-    let tolerance = numbers::tolerance(rng);
-    let mut values = transfer_values(n, rng);
+    let mut tolerance = numbers::tolerance(rng);
+    let mut values = tested_values(n, rng);
+    if rng.chance(20) {
+        tolerance = tolerance_at_eigenvalue(n, &values, rng).unwrap_or(tolerance);
+    }
     if rng.chance(30) {
         // One entry of the first row or column at the tolerance or beside it.
         let k = rng.index(p);

@@ -1,6 +1,5 @@
 -- `eigen::ascend` meets its contract. Assumes nothing.
-use Rattle.eigen.specs.Jacobi.{diagonal}
-use Rattle.eigen.proofs.Running.{whole-order, order-in, sorted-is}
+use Rattle.eigen.proofs.Running.{ascends}
 use borrow.Author.Needs.{needs}
 use Rattle.eigen.proofs.ascend.Statement.{statement}
 use Rattle.eigen.proofs.ascend.Tie as tie
@@ -8,11 +7,8 @@ use Rattle.eigen.proofs.ascend.Tie as tie
 diagonal-requires : tie.Need-diagonal-requires
 diagonal-requires c κs = search needs
 
-sort-requires : tie.Need-sort-requires
-sort-requires c κs = search needs
-
-values-requires : tie.Need-values-requires
-values-requires c κs = (search needs, order-in _ (c .before .before .before .before .before .before .before .before .before .before .before .before .before .before .before .before .args .n) _ _ (search needs) (search needs) (whole-order _ _ _ (search needs) (c .before .before .before .before .before .sort .ensures)))
+arrange-requires : tie.Need-arrange-requires
+arrange-requires c κs = search needs
 
 same-length : tie.Need-same-length
 same-length c = search needs
@@ -24,15 +20,14 @@ same-length-3 : tie.Need-same-length-3
 same-length-3 c = search needs
 
 returns : tie.Need-returns
-returns c = let e = c .before .before .before .before .before .before .before .before .before .before .before .before .before .diagonal .ensures in let o = whole-order _ _ _ (search needs) (c .before .before .before .before .before .before .before .before .sort .ensures) in (rw (← e) o, rw (← e) (sorted-is _ _ (c .before .before .before .before .before .before .before .before .before .before .before .before .before .before .before .before .before .before .before .args .n) _ _ (search needs) (search needs) o (c .before .before .values .ensures)))
+returns c = ascends _ _ _ _ _ (search needs) (c .before .before .before .before .before .before .before .before .before .before .diagonal .ensures) (c .before .before .before .before .arrange .ensures)
 
 pub ascend-spec : {M : Type 1} → statement M
 ascend-spec =
     tie.close
     (tie.spec
     diagonal-requires
-    sort-requires
-    values-requires
+    arrange-requires
     same-length
     same-length-2
     same-length-3

@@ -9,7 +9,7 @@ use Rattle.lists.proofs.Folding.{fold-none, fold-more, fold-end}
 use Rattle.lists.proofs.Parts.{entry-fits}
 use Rattle.entries.specs.Entries.{entries, entryAt}
 use Rattle.entries.specs.Laid.{laid, laidRow}
-use Rattle.eigen.proofs.Running.{put-laid}
+use Rattle.entries.proofs.Laying.{put-laid}
 use borrow.Author.Needs.{needs}
 use Rattle.eigen.proofs.columns_row.Statement.{statement}
 use Rattle.eigen.proofs.columns_row.Tie as tie

@@ -7,8 +7,8 @@ use Rattle.lists.proofs.Filling.{Filled, fill-none, fill-more}
 use Rattle.lists.proofs.Parts.{entry-fits}
 use Rattle.complex.specs.declared.Complex.{Complex}
 use Rattle.entries.specs.Entries.{entries, entryAt}
-use Rattle.magnitudes.proofs.Laws.{filled-all}
 use Rattle.eigen.specs.Jacobi.{diagonal}
+use Rattle.eigen.proofs.Running.{filled-all}
 use borrow.Author.Needs.{needs}
 use Rattle.eigen.proofs.diagonal.Statement.{statement}
 use Rattle.eigen.proofs.diagonal.Tie as tie

@@ -5,7 +5,7 @@ use native.Mathlib.Omega.{arith}
 use lib.ListN.{length}
 use Rattle.entries.specs.Entries.{entries}
 use Rattle.magnitudes.specs.Notes.{notes, Kept}
-use Rattle.magnitudes.proofs.Keeping.{search-finds, scale-measured}
+use Rattle.magnitudes.proofs.Keeping.{search-finds}
 use Rattle.eigen.specs.Jacobi.{jacobi, ran}
 use Rattle.eigen.proofs.Running.{run-none, run-done, run-more, kept-step, found-within, kept-measured, by-scale}
 use borrow.Author.Needs.{needs}
@@ -25,7 +25,7 @@ scale-requires : tie.Need-scale-requires Inv-loop μ-loop
 scale-requires c κs = search needs
 
 loop-holds : tie.Need-loop-holds Inv-loop μ-loop
-loop-holds c = (search needs, search needs, search needs, search needs, kept-measured _ _ _ (c .before .before .before .before .before .before .measure .ensures), refl)
+loop-holds c = (search needs, search needs, search needs, search needs, kept-measured _ _ _ _ (search needs, search needs) (c .before .before .before .before .before .before .measure .ensures), refl)
 
 find-requires : tie.Need-find-requires Inv-loop μ-loop
 find-requires c κs = search needs
@@ -44,7 +44,7 @@ same-length-4 c = search needs
 
 returns : tie.Need-returns Inv-loop μ-loop
 unfolding ran
-returns c = let h = search-finds _ _ _ _ _ _ (c .before .before .before .before .before .before .before .before .before .before .before .loop .inv .2, c .before .before .before .before .before .before .before .before .before .before .before .loop .inv .3) (c .before .before .before .before .before .before .before .before .before .before .before .loop .inv .4) (c .before .before .before .before .before .before .find .ensures) in by-scale _ _ _ _ _ _ _ _ (c .before .before .before .before .before .before .before .before .before .before .before .before .scale .ensures ∙ scale-measured _ _ _ _ (search needs) (c .before .before .before .before .before .before .before .before .before .before .before .before .before .before .before .before .before .before .measure .ensures)) (run-done _ _ _ _ _ _ _ (c .before .before .before .before .before .before .before .before .before .before .loop-test .taken) (h .0) (c .if1 .taken) ∙ c .before .before .before .before .before .before .before .before .before .before .before .loop .inv .5)
+returns c = let h = search-finds _ _ _ _ _ _ (c .before .before .before .before .before .before .before .before .before .before .before .loop .inv .2, c .before .before .before .before .before .before .before .before .before .before .before .loop .inv .3) (c .before .before .before .before .before .before .before .before .before .before .before .loop .inv .4) (c .before .before .before .before .before .before .find .ensures) in by-scale _ _ _ _ _ _ _ _ (c .before .before .before .before .before .before .before .before .before .before .before .before .scale .ensures) (run-done _ _ _ _ _ _ _ (c .before .before .before .before .before .before .before .before .before .before .loop-test .taken) (h .0) (c .if1 .taken) ∙ c .before .before .before .before .before .before .before .before .before .before .before .loop .inv .5)
 
 step-requires : tie.Need-step-requires Inv-loop μ-loop
 step-requires c κs = let h = search-finds _ _ _ _ _ _ (c .before .before .before .before .before .before .before .before .before .before .before .before .before .before .before .loop .inv .2, c .before .before .before .before .before .before .before .before .before .before .before .before .before .before .before .loop .inv .3) (c .before .before .before .before .before .before .before .before .before .before .before .before .before .before .before .loop .inv .4) (c .before .before .before .before .before .before .before .before .before .before .find .ensures) in let w = found-within _ _ _ (c .before .before .before .before .before .before .before .before .before .before .before .before .before .before .before .before .before .before .before .before .before .before .before .before .before .before .before .before .before .before .pre .4) (h .0) in (search needs, search needs, search needs, search needs, w .0, w .1)
@@ -72,7 +72,7 @@ same-length-8 c = search needs
 
 returns-2 : tie.Need-returns-2 Inv-loop μ-loop
 unfolding ran
-returns-2 c = by-scale _ _ _ _ _ _ _ _ (c .before .before .scale .ensures ∙ scale-measured _ _ _ _ (search needs) (c .before .before .before .before .before .before .before .before .measure .ensures)) (run-none _ _ _ _ _ _ (omega arith) ∙ c .before .loop .inv .5)
+returns-2 c = by-scale _ _ _ _ _ _ _ _ (c .before .before .scale .ensures) (run-none _ _ _ _ _ _ (omega arith) ∙ c .before .loop .inv .5)
 
 pub run-spec : {M : Type 1} → statement M
 run-spec =

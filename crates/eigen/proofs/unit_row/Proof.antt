@@ -8,8 +8,8 @@ use Rattle.lists.proofs.Folding.{fold-none, fold-more, fold-end}
 use Rattle.lists.proofs.Parts.{entry-fits}
 use Rattle.entries.specs.Entries.{entries}
 use Rattle.entries.specs.Laid.{laid, laidRow}
+use Rattle.entries.proofs.Laying.{put-laid}
 use Rattle.eigen.specs.Jacobi.{unitAt}
-use Rattle.eigen.proofs.Running.{put-laid}
 use borrow.Author.Needs.{needs}
 use Rattle.eigen.proofs.unit_row.Statement.{statement}
 use Rattle.eigen.proofs.unit_row.Tie as tie

@@ -7,8 +7,8 @@ use Rattle.magnitudes.proofs.note.Tie as tie
 get-requires : tie.Need-get-requires
 get-requires c κs = search needs
 
-magnitude-requires : tie.Need-magnitude-requires
-magnitude-requires c κs = search needs
+bound-requires : tie.Need-bound-requires
+bound-requires c κs = search needs
 
 mul-bounds : tie.Need-mul-bounds
 mul-bounds c = search needs
@@ -30,14 +30,14 @@ same-length-2 c = search needs
 
 returns : tie.Need-returns
 unfolding noted
-returns c = rw (← c .before .get .ensures, ← c .magnitude .ensures)
+returns c = rw (← c .before .get .ensures, ← c .bound .ensures)
 
 pub note-spec : {M : Type 1} → statement M
 note-spec =
     tie.close
     (tie.spec
     get-requires
-    magnitude-requires
+    bound-requires
     mul-bounds
     slice-write-bounds
     mul-sizes

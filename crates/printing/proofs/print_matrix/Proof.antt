@@ -13,10 +13,13 @@ use borrow.Author.Needs.{needs}
 use Rattle.printing.proofs.print_matrix.Statement.{statement}
 use Rattle.printing.proofs.print_matrix.Tie as tie
 
+print-header-requires : tie.Need-print-header-requires
+print-header-requires c κs = search needs
+
 returns : tie.Need-returns
 returns c =
-    let d = c .before .before .args .d in
-    no _ (ap (λ (b : Bool). b && leb (2 * (d * d)) (length (now (c .before .before .args .result)))) (lt-leb _ _ (c .if1 .taken))) refl
+    let d = c .before .before .before .before .args .d in
+    no _ (ap (λ (b : Bool). b && leb (2 * (d * d)) (length (now (c .before .before .before .before .args .result)))) (lt-leb _ _ (c .if1 .taken))) refl
 
 mul-count : tie.Need-mul-count
 mul-count c = omega (arith, mul-le-mul (c .if1 .left) (c .if1 .left))
@@ -39,4 +42,12 @@ returns-3 c = yes _ (ap₂ (λ (a b : Bool). a && b) (le-leb _ _ (c .before .bef
 pub print-matrix-spec : {M : Type 1} → statement M
 print-matrix-spec =
     tie.close
-    (tie.spec returns mul-count mul-if2 returns-2 print-entries-requires add-result returns-3)
+    (tie.spec
+    print-header-requires
+    returns
+    mul-count
+    mul-if2
+    returns-2
+    print-entries-requires
+    add-result
+    returns-3)

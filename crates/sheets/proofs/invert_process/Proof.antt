@@ -1,5 +1,5 @@
 -- `sheets::invert_process` meets its contract. Assumes nothing.
-use Rattle.sheets.proofs.Shown.{square-most}
+use Rattle.sizes.proofs.Small.{square-most}
 use Rattle.transfer.specs.Process.{processOf, processNumbers}
 use Rattle.numbers.proofs.Slices.{length-numbers}
 use Rattle.numbers.specs.Slice.{numberAt, numbersAt}

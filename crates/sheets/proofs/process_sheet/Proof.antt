@@ -1,5 +1,6 @@
 -- `sheets::process_sheet` meets its contract. Assumes nothing.
-use Rattle.sheets.proofs.Shown.{four-some, four-most, process-refused, process-shown}
+use Rattle.sheets.proofs.Shown.{process-refused, process-shown}
+use Rattle.sizes.proofs.Small.{four-some, four-most}
 use Rattle.lists.specs.Build.{over}
 use Rattle.sheets.specs.Sheets.{transferNumbers}
 use Rattle.outcome.proofs.Outcomes.{stays}

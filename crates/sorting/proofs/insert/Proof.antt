@@ -11,10 +11,10 @@ use Rattle.sorting.proofs.insert.Statement.{statement}
 use Rattle.sorting.proofs.insert.Tie as tie
 
 abbrev Inv-loop : tie.InvT-loop
-Inv-loop w order₀ k h₀ i₀ order h i = (i ≤ k) × (length order ≡ length order₀) × (shift order h ≡ fold i (shifted w) (shift order₀ h₀))
+Inv-loop falling w order₀ k h₀ i₀ order h i = (i ≤ k) × (length order ≡ length order₀) × (shift order h ≡ fold i (shifted falling w) (shift order₀ h₀))
 
 abbrev μ-loop : tie.MeasureT-loop
-μ-loop w order₀ k h₀ i₀ order h i = k - i
+μ-loop falling w order₀ k h₀ i₀ order h i = k - i
 
 loop-holds : tie.Need-loop-holds Inv-loop μ-loop
 loop-holds c = (search needs, search needs, fold-none _ _)

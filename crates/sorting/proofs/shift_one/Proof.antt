@@ -29,8 +29,8 @@ number-at-requires c κs = search needs
 number-at-requires-2 : tie.Need-number-at-requires-2
 number-at-requires-2 c κs = search needs
 
-comes-before-requires : tie.Need-comes-before-requires
-comes-before-requires c κs = search needs
+comes-first-requires : tie.Need-comes-first-requires
+comes-first-requires c κs = search needs
 
 mul-order-2 : tie.Need-mul-order-2
 mul-order-2 c = search needs
@@ -43,11 +43,11 @@ same-length-2 c = search needs
 
 returns-2 : tie.Need-returns-2
 unfolding shifted
-returns-2 c = rw (c .before .before .before .before .if1 .left, ← c .before .before .before .number-at .ensures, ← c .before .before .number-at2 .ensures, ← c .before .comes-before .ensures, c .if2 .taken)
+returns-2 c = rw (c .before .before .before .before .if1 .left, ← c .before .before .before .number-at .ensures, ← c .before .before .number-at2 .ensures, ← c .before .comes-first .ensures, c .if2 .taken)
 
 returns-3 : tie.Need-returns-3
 unfolding shifted
-returns-3 c = rw (c .before .before .before .before .if1 .left, ← c .before .before .before .number-at .ensures, ← c .before .before .number-at2 .ensures, ← c .before .comes-before .ensures, c .if2 .left)
+returns-3 c = rw (c .before .before .before .before .if1 .left, ← c .before .before .before .number-at .ensures, ← c .before .before .number-at2 .ensures, ← c .before .comes-first .ensures, c .if2 .left)
 
 pub shift-one-spec : {M : Type 1} → statement M
 shift-one-spec =
@@ -61,7 +61,7 @@ shift-one-spec =
     returns
     number-at-requires
     number-at-requires-2
-    comes-before-requires
+    comes-first-requires
     mul-order-2
     slice-write-order-2
     same-length-2

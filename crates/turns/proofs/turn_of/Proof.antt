@@ -15,8 +15,8 @@ read-requires-2 c κs = omega (arith, entry-fits (c .before .before .args .g .q)
 tangent-requires : tie.Need-tangent-requires
 tangent-requires c κs = search needs
 
-sqrt-requires : tie.Need-sqrt-requires
-sqrt-requires c κs = search needs
+sqrt-from-one-requires : tie.Need-sqrt-from-one-requires
+sqrt-from-one-requires c κs = search needs
 
 read-requires-3 : tie.Need-read-requires-3
 read-requires-3 c κs = omega (arith, entry-fits (c .before .before .before .before .before .args .g .p) (c .before .before .before .before .before .args .g .q) (c .before .before .before .before .before .args .n) (c .before .before .before .before .before .args .n) (c .before .before .before .before .before .pre .1) (c .before .before .before .before .before .pre .2))
@@ -26,7 +26,7 @@ divided-requires c κs = search needs
 
 returns : tie.Need-returns
 unfolding turnOf
-returns c = rw (← c .before .before .before .before .before .read .ensures, ← c .before .before .before .before .read2 .ensures, ← c .before .read3 .ensures, ← c .before .before .before .tangent .ensures, ← c .before .before .sqrt .ensures, ← c .divided .ensures)
+returns c = rw (← c .before .before .before .before .before .read .ensures, ← c .before .before .before .before .read2 .ensures, ← c .before .read3 .ensures, ← c .before .before .before .tangent .ensures, ← c .before .before .sqrt-from-one .ensures, ← c .divided .ensures)
 
 pub turn-of-spec : {M : Type 1} → statement M
 turn-of-spec =
@@ -35,7 +35,7 @@ turn-of-spec =
     read-requires
     read-requires-2
     tangent-requires
-    sqrt-requires
+    sqrt-from-one-requires
     read-requires-3
     divided-requires
     returns)

@@ -20,12 +20,12 @@ returns c = rw (← c .before .before .before .abs-of .ensures, ← c .before .b
 min-of-requires : tie.Need-min-of-requires
 min-of-requires c κs = search needs
 
-sqrt-requires : tie.Need-sqrt-requires
-sqrt-requires c κs = search needs
+sqrt-from-one-requires : tie.Need-sqrt-from-one-requires
+sqrt-from-one-requires c κs = search needs
 
 returns-2 : tie.Need-returns-2
 unfolding magnitude
-returns-2 c = rw (← c .before .before .before .before .before .abs-of .ensures, ← c .before .before .before .before .abs-of2 .ensures, ← c .before .before .before .max-of .ensures, ← c .before .min-of .ensures, c .before .before .if1 .left, ← c .sqrt .ensures)
+returns-2 c = rw (← c .before .before .before .before .before .abs-of .ensures, ← c .before .before .before .before .abs-of2 .ensures, ← c .before .before .before .max-of .ensures, ← c .before .min-of .ensures, c .before .before .if1 .left, ← c .sqrt-from-one .ensures)
 
 pub magnitude-spec : {M : Type 1} → statement M
 magnitude-spec =
@@ -36,5 +36,5 @@ magnitude-spec =
     max-of-requires
     returns
     min-of-requires
-    sqrt-requires
+    sqrt-from-one-requires
     returns-2)

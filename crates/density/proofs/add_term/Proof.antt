@@ -1,0 +1,73 @@
+-- `density::add_term` meets its contract. Assumes nothing.
+use Prim.Native.Nat.{_≤_, _-_}
+use mathlib.Core.Path.{_≡_}
+use native.Mathlib.Omega.{arith}
+use lib.ListN.{length}
+use denote.Ref.{now}
+use Rattle.lists.specs.Fold.{fold}
+use Rattle.lists.proofs.Folding.{fold-none, fold-more}
+use Rattle.lists.proofs.Parts.{entry-fits}
+use Rattle.entries.specs.Entries.{entries}
+use Rattle.entries.specs.Laid.{changedRow}
+use Rattle.entries.proofs.Pairs.{length-entries}
+use Rattle.density.proofs.Mixing.{termAdded, row-added, term-added}
+use borrow.Author.Needs.{needs}
+use Rattle.density.proofs.add_term.Statement.{statement}
+use Rattle.density.proofs.add_term.Tie as tie
+
+abbrev Inv-loop : tie.InvT-loop
+Inv-loop v n k p u out₀ i₀ out i = (i ≤ n) × (length out ≡ length out₀) × (entries out ≡ fold i (changedRow n (termAdded n (entries v) k p)) (entries out₀))
+
+abbrev μ-loop : tie.MeasureT-loop
+μ-loop v n k p u out₀ i₀ out i = n - i
+
+conjugate-column-requires : tie.Need-conjugate-column-requires Inv-loop μ-loop
+conjugate-column-requires c κs = search needs
+
+loop-holds : tie.Need-loop-holds Inv-loop μ-loop
+loop-holds c = (search needs, search needs, fold-none _ _)
+
+read-requires : tie.Need-read-requires Inv-loop μ-loop
+read-requires c κs = let s = c .before .before .before .before .before .before .before .before .before in omega (arith, entry-fits (c .before .loop .i) (s .args .k) (s .args .n) (s .args .n) (c .loop-test .taken) (s .pre .3))
+
+scaled-requires : tie.Need-scaled-requires Inv-loop μ-loop
+scaled-requires c κs = search needs
+
+add-row-requires : tie.Need-add-row-requires Inv-loop μ-loop
+add-row-requires c κs = search needs
+
+add-i : tie.Need-add-i Inv-loop μ-loop
+add-i c = search needs
+
+loop-less : tie.Need-loop-less Inv-loop μ-loop
+loop-less c = search needs
+
+loop-again : tie.Need-loop-again Inv-loop μ-loop
+loop-again c = let s = c .before .before .before .before .before .before .before .before .before .before .before .before .before .before .before .before .args in (search needs, search needs, fold-more _ _ _ _ _ (c .before .before .before .before .before .before .before .before .loop .inv .2) (row-added (s .n) (entries (now (s .v))) (s .k) (s .p) _ (c .before .before .before .before .before .before .before .before .loop .i) _ _ (entries (c .before .before .before .before .before .before .before .before .loop .out)) _ (c .before .before .before .before .before .before .before .before .before .before .before .conjugate-column .ensures) (c .before .before .before .before .before .before .read .ensures) (c .before .before .before .before .before .scaled .ensures) (c .before .before .add-row .ensures)))
+
+same-length : tie.Need-same-length Inv-loop μ-loop
+same-length c = search needs
+
+same-length-2 : tie.Need-same-length-2 Inv-loop μ-loop
+same-length-2 c = search needs
+
+returns : tie.Need-returns Inv-loop μ-loop
+returns c = term-added _ _ _ _ _ _ _ (omega arith) (length-entries _ _ (c .before .before .before .before .before .before .before .before .before .pre .2)) (c .before .loop .inv .2)
+
+pub add-term-spec : {M : Type 1} → statement M
+add-term-spec =
+    tie.close
+    (tie.spec
+    Inv-loop
+    μ-loop
+    conjugate-column-requires
+    loop-holds
+    read-requires
+    scaled-requires
+    add-row-requires
+    add-i
+    loop-less
+    loop-again
+    same-length
+    same-length-2
+    returns)

@@ -1,0 +1,62 @@
+-- `density::halve_row` meets its contract. Assumes nothing.
+use Prim.Native.Nat.{_≤_, _-_}
+use mathlib.Core.Path.{_≡_}
+use native.Mathlib.Omega.{arith}
+use lib.ListN.{length}
+use denote.Ref.{now}
+use Rattle.lists.specs.Fold.{fold}
+use Rattle.lists.proofs.Folding.{fold-none, fold-more, fold-end}
+use Rattle.lists.proofs.Parts.{entry-fits}
+use Rattle.entries.specs.Entries.{entries}
+use Rattle.entries.specs.Laid.{laid, laidRow}
+use Rattle.entries.proofs.Laying.{put-laid}
+use Rattle.density.specs.Projection.{halvedAt}
+use borrow.Author.Needs.{needs}
+use Rattle.density.proofs.halve_row.Statement.{statement}
+use Rattle.density.proofs.halve_row.Tie as tie
+
+abbrev Inv-loop : tie.InvT-loop
+Inv-loop e n i h₀ j₀ h j = (j ≤ n) × (length h ≡ length h₀) × (entries h ≡ fold j (laid n (halvedAt n (entries e)) i) (entries h₀))
+
+abbrev μ-loop : tie.MeasureT-loop
+μ-loop e n i h₀ j₀ h j = n - j
+
+loop-holds : tie.Need-loop-holds Inv-loop μ-loop
+loop-holds c = (search needs, search needs, fold-none _ _)
+
+halved-at-requires : tie.Need-halved-at-requires Inv-loop μ-loop
+halved-at-requires c κs = search needs
+
+write-requires : tie.Need-write-requires Inv-loop μ-loop
+write-requires c κs = let s = c .before .before .before .before .before .before in omega (arith, entry-fits (s .args .i) (c .before .before .before .loop .j) (s .args .n) (s .args .n) (s .pre .2) (c .before .before .loop-test .taken))
+
+add-j : tie.Need-add-j Inv-loop μ-loop
+add-j c = search needs
+
+loop-less : tie.Need-loop-less Inv-loop μ-loop
+loop-less c = search needs
+
+loop-again : tie.Need-loop-again Inv-loop μ-loop
+loop-again c = let s = c .before .before .before .before .before .before .before .before .before .args in (search needs, search needs, fold-more _ _ _ _ _ (c .before .before .before .before .before .before .loop .inv .2) (put-laid (s .n) (halvedAt (s .n) (entries (now (s .e)))) (s .i) (c .before .before .before .before .before .before .loop .j) (entries (c .before .before .before .before .before .before .loop .h)) _ _ (c .before .before .write .ensures) (c .before .before .before .halved-at .ensures)))
+
+same-length : tie.Need-same-length Inv-loop μ-loop
+same-length c = search needs
+
+returns : tie.Need-returns Inv-loop μ-loop
+unfolding laidRow
+returns c = fold-end _ _ _ _ _ (omega arith) (c .before .loop .inv .2)
+
+pub halve-row-spec : {M : Type 1} → statement M
+halve-row-spec =
+    tie.close
+    (tie.spec
+    Inv-loop
+    μ-loop
+    loop-holds
+    halved-at-requires
+    write-requires
+    add-j
+    loop-less
+    loop-again
+    same-length
+    returns)

@@ -1,0 +1,7 @@
+pub mod Laws
+pub mod Models
+pub mod Searches
+pub mod Steps
+pub mod Points
+pub mod Counts
+pub mod Prefix

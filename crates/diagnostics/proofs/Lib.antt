@@ -1,0 +1,4 @@
+pub mod Loading
+pub mod Records
+pub mod Tables
+pub mod Models

@@ -1,0 +1,71 @@
+-- `diagnostics::add_record` meets its contract. Assumes nothing.
+use mathlib.Core.Path.{sym, _∙_}
+use lib.Seq.{length-take-le}
+use Rattle.lists.proofs.Parts.{front-again}
+use Rattle.diagnostics.proofs.Records.{absent, present}
+use borrow.Author.Needs.{needs}
+use Rattle.diagnostics.proofs.add_record.Statement.{statement}
+use Rattle.diagnostics.proofs.add_record.Tie as tie
+
+sequence-length-requires : tie.Need-sequence-length-requires
+sequence-length-requires c κs = search needs
+
+sequence-room-requires : tie.Need-sequence-room-requires
+sequence-room-requires c κs = search needs
+
+slice-aggregate-load-sequence : tie.Need-slice-aggregate-load-sequence
+slice-aggregate-load-sequence c = search needs
+
+load-sequence-requires : tie.Need-load-sequence-requires
+load-sequence-requires c κs = search needs
+
+array-share-prefix-sequence : tie.Need-array-share-prefix-sequence
+array-share-prefix-sequence c = search needs
+
+slice-aggregate-check-sequence : tie.Need-slice-aggregate-check-sequence
+slice-aggregate-check-sequence c = sym (length-take-le _ _ (search needs))
+
+check-sequence-requires : tie.Need-check-sequence-requires
+check-sequence-requires c κs = search needs
+
+enum-known-found : tie.Need-enum-known-found
+enum-known-found c = search needs
+
+enum-told : tie.Need-enum-told
+enum-told c = search needs
+
+array-share-prefix-sequence-2 : tie.Need-array-share-prefix-sequence-2
+array-share-prefix-sequence-2 c = search needs
+
+slice-aggregate-weigh-record : tie.Need-slice-aggregate-weigh-record
+slice-aggregate-weigh-record c = sym (length-take-le _ _ (search needs))
+
+weigh-record-requires : tie.Need-weigh-record-requires
+weigh-record-requires c κs =
+    let s = c .before .before .before .before .before .before .before .before .before .before .before .before .before in
+    (s .pre .0, s .pre .1 .there, s .pre .2, s .pre .3, sym (c .before .before .before .check-sequence .ensures) ∙ c .before .enum-told .given .1)
+
+returns : tie.Need-returns
+returns c = absent _ _ _ _ _ _ _ _ _ _ (front-again _ _ (c .before .before .before .before .before .before .load-sequence .ensures) (sym (c .before .before .before .before .before .before .before .before .before .sequence-length .ensures))) (c .before .before .before .check-sequence .ensures) _ (c .before .found .given .1)
+
+returns-2 : tie.Need-returns-2
+returns-2 c = present _ _ _ _ _ _ _ _ _ _ (front-again _ _ (c .before .before .before .before .before .before .before .load-sequence .ensures) (sym (c .before .before .before .before .before .before .before .before .before .before .sequence-length .ensures))) (c .before .before .before .before .check-sequence .ensures) _ (c .before .before .enum-told .given .1) (c .weigh-record .ensures)
+
+pub add-record-spec : {M : Type 1} → statement M
+add-record-spec =
+    tie.close
+    (tie.spec
+    sequence-length-requires
+    sequence-room-requires
+    slice-aggregate-load-sequence
+    load-sequence-requires
+    array-share-prefix-sequence
+    slice-aggregate-check-sequence
+    check-sequence-requires
+    enum-known-found
+    enum-told
+    array-share-prefix-sequence-2
+    slice-aggregate-weigh-record
+    weigh-record-requires
+    returns
+    returns-2)

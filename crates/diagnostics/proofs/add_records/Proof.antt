@@ -1,0 +1,45 @@
+-- `diagnostics::add_records` meets its contract. Assumes nothing.
+use Prim.Native.Nat.{_≤_, _-_}
+use mathlib.Core.Path.{_≡_}
+use native.Mathlib.Omega.{arith}
+use Rattle.lists.specs.Fold.{fold}
+use Rattle.lists.proofs.Folding.{fold-none, fold-more, fold-end}
+use Rattle.logarithm.specs.Steps.{lnBy, entriesOf}
+use Rattle.likelihood.specs.declared.Likelihood.the-variants.{Fit}
+use Rattle.likelihood.specs.Multinomial.{onward}
+use Rattle.diagnostics.specs.Diagnostics.{noDiagnostics, recordOnward, likelihoodBy}
+use borrow.Author.Needs.{needs}
+use Rattle.diagnostics.proofs.add_records.Statement.{statement}
+use Rattle.diagnostics.proofs.add_records.Tie as tie
+
+abbrev Inv-loop : tie.InvT-loop
+Inv-loop quotients remainders deviance tolerance card h model columns count l₀ r₀ l r = (r ≤ count) × (l ≡ fold r (λ r. onward (recordOnward (lnBy (entriesOf quotients) (entriesOf remainders)) deviance tolerance card h model r)) (Fit noDiagnostics))
+
+abbrev μ-loop : tie.MeasureT-loop
+μ-loop quotients remainders deviance tolerance card h model columns count l₀ r₀ l r = count - r
+
+loop-holds : tie.Need-loop-holds Inv-loop μ-loop
+loop-holds c = (search needs, fold-none _ _)
+
+record-onward-requires : tie.Need-record-onward-requires Inv-loop μ-loop
+record-onward-requires c κs =
+    let s = c .before .before .before .before .before in
+    (s .pre .0, s .pre .1 _ (c .loop-test .taken), s .pre .2, s .pre .3)
+
+add-r : tie.Need-add-r Inv-loop μ-loop
+add-r c = search needs
+
+loop-less : tie.Need-loop-less Inv-loop μ-loop
+loop-less c = search needs
+
+loop-again : tie.Need-loop-again Inv-loop μ-loop
+loop-again c = (search needs, fold-more _ _ _ _ _ (c .before .before .loop .inv .1) (c .record-onward .ensures))
+
+returns : tie.Need-returns Inv-loop μ-loop
+unfolding likelihoodBy
+returns c = fold-end _ _ _ _ _ (omega arith) (c .before .loop .inv .1)
+
+pub add-records-spec : {M : Type 1} → statement M
+add-records-spec =
+    tie.close
+    (tie.spec Inv-loop μ-loop loop-holds record-onward-requires add-r loop-less loop-again returns)

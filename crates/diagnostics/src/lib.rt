@@ -1,0 +1,229 @@
+// The likelihood of a card's records under a model.
+use card_layout::Header;
+use card_parts::count_in;
+use card_parts::gate_in;
+use card_parts::sequence_length;
+use likelihood::Diagnostics;
+use likelihood::Likelihood;
+use refusal::Verdict;
+ghost use mathlib.Core.Path.{_≡_};
+ghost use Prim.Native.Nat.{ℕ, _*_, _≤_, _<_};
+ghost use lib.ListN.{length};
+ghost use Rattle.lists.specs.Build.{over};
+ghost use Rattle.logarithm.specs.Steps.{lnBy, entriesOf};
+ghost use Rattle.card_places.specs.Shape.{Shaped};
+ghost use Rattle.card_parts.specs.Parts.{sequenceOf, Sequence};
+ghost use Rattle.model_words.specs.Words.{modelNumbers};
+ghost use Rattle.gate_set.specs.GateSet.{columnsIn, presentOf, probabilitiesOf};
+ghost use Rattle.likelihood.specs.Multinomial.{onward, withRecord};
+ghost use Rattle.refusal.specs.declared.Verdict.the-variants.{Good};
+ghost use Rattle.diagnostics.specs.Diagnostics.{countsOf, recordOnward, likelihoodBy, likelihoodOf};
+
+// Record r's sequence, at the front of `out`.
+fn load_sequence(card: &[u8], h: Header, r: usize, n: usize, out: &mut [usize])
+    requires { ⌜ Shaped (now card) h × Sequence (now card) h r × (n ≡ length (sequenceOf (now card) h r)) × (n ≤ length (now out)) ⌝ }
+    ensures { λ _. ⌜ now (out .exit) ≡ over (sequenceOf (now (card .entry)) h r) (now (out .entry)) ⌝ }
+{
+    for k in 0..n {
+        out[k] = gate_in(card, h, r, k);
+    }
+}
+
+// Record r's counts.
+fn load_counts(card: &[u8], h: Header, r: usize, out: &mut [u64])
+    requires { ⌜ Shaped (now card) h × (r < h .records) × (h .effects ≤ length (now out)) ⌝ }
+    ensures { λ _. ⌜ now (out .exit) ≡ over (countsOf (now (card .entry)) h r) (now (out .entry)) ⌝ }
+{
+    let e = h.effects;
+    for k in 0..e {
+        out[k] = count_in(card, h, r, k);
+    }
+}
+
+// Room for a sequence, counts and probabilities; the `ensures` gives the length, which lending a part needs.
+fn sequence_room() -> [usize; 64]
+    ensures { λ r. ⌜ 64 ≡ length r ⌝ }
+{
+    [0; 64]
+}
+
+fn counts_room() -> [u64; 16]
+    ensures { λ r. ⌜ 16 ≡ length r ⌝ }
+{
+    [0; 16]
+}
+
+fn probabilities_room() -> [f64; 16]
+    ensures { λ r. ⌜ 16 ≡ length r ⌝ }
+{
+    [0.0; 16]
+}
+
+// Record r, whose gates are all there.
+fn weigh_record<'a>(
+    quotients: &'a [u64; 257],
+    remainders: &'a [u64; 257],
+    deviance: bool,
+    tolerance: f64,
+    card: &[u8],
+    h: Header,
+    r: usize,
+    model: &[f64],
+    columns: &[f64],
+    sequence: &[usize],
+    d: Diagnostics,
+) -> Likelihood
+    requires { ⌜ Shaped (now card) h × (r < h .records) × (modelNumbers h ≤ length (now model)) × (now columns ≡ columnsIn (h .dimension) (h .effects) (h .gates) (now model)) × (presentOf (h .gates) (now sequence) ≡ Good) ⌝ }
+    ensures { λ l. ⌜ l ≡ withRecord (lnBy (entriesOf (now (quotients .entry))) (entriesOf (now (remainders .entry)))) deviance tolerance (countsOf (now (card .entry)) h r) (probabilitiesOf (h .dimension) (h .effects) (now (model .entry)) (now (sequence .entry))) d ⌝ }
+{
+    let e = h.effects;
+    let mut counts = counts_room();
+    let mut ps = probabilities_room();
+    load_counts(card, h, r, &mut counts);
+    gate_set::probabilities(model, columns, sequence, h.dimension, e, &mut ps);
+    likelihood::with_record(
+        quotients,
+        remainders,
+        deviance,
+        tolerance,
+        &counts[..e],
+        &ps[..e],
+        d,
+    )
+}
+
+// Adds record r's terms to d.
+fn add_record<'a>(
+    quotients: &'a [u64; 257],
+    remainders: &'a [u64; 257],
+    deviance: bool,
+    tolerance: f64,
+    card: &[u8],
+    h: Header,
+    r: usize,
+    model: &[f64],
+    columns: &[f64],
+    d: Diagnostics,
+) -> Likelihood
+    requires { ⌜ Shaped (now card) h × Sequence (now card) h r × (modelNumbers h ≤ length (now model)) × (now columns ≡ columnsIn (h .dimension) (h .effects) (h .gates) (now model)) ⌝ }
+    ensures { λ l. ⌜ l ≡ recordOnward (lnBy (entriesOf (now (quotients .entry))) (entriesOf (now (remainders .entry)))) deviance tolerance (now (card .entry)) h (now (model .entry)) r d ⌝ }
+{
+    let n = sequence_length(card, h, r);
+    let mut sequence = sequence_room();
+    load_sequence(card, h, r, n, &mut sequence);
+    let found = gate_set::check_sequence(&sequence[..n], h.gates);
+    match found {
+        Verdict::Refused(x) => Likelihood::Refused(x),
+        Verdict::Good => weigh_record(
+            quotients,
+            remainders,
+            deviance,
+            tolerance,
+            card,
+            h,
+            r,
+            model,
+            columns,
+            &sequence[..n],
+            d,
+        ),
+    }
+}
+
+// The same, where all records before it passed.
+fn record_onward<'a>(
+    quotients: &'a [u64; 257],
+    remainders: &'a [u64; 257],
+    deviance: bool,
+    tolerance: f64,
+    card: &[u8],
+    h: Header,
+    r: usize,
+    model: &[f64],
+    columns: &[f64],
+    l: Likelihood,
+) -> Likelihood
+    requires { ⌜ Shaped (now card) h × Sequence (now card) h r × (modelNumbers h ≤ length (now model)) × (now columns ≡ columnsIn (h .dimension) (h .effects) (h .gates) (now model)) ⌝ }
+    ensures { λ m. ⌜ m ≡ onward (recordOnward (lnBy (entriesOf (now (quotients .entry))) (entriesOf (now (remainders .entry)))) deviance tolerance (now (card .entry)) h (now (model .entry)) r) l ⌝ }
+{
+    match l {
+        Likelihood::Fit(d) => add_record(
+            quotients,
+            remainders,
+            deviance,
+            tolerance,
+            card,
+            h,
+            r,
+            model,
+            columns,
+            d,
+        ),
+        Likelihood::Failed => Likelihood::Failed,
+        Likelihood::Refused(x) => Likelihood::Refused(x),
+    }
+}
+
+fn add_records<'a>(
+    quotients: &'a [u64; 257],
+    remainders: &'a [u64; 257],
+    deviance: bool,
+    tolerance: f64,
+    card: &[u8],
+    h: Header,
+    model: &[f64],
+    columns: &[f64],
+) -> Likelihood
+    requires { ⌜ Shaped (now card) h × ((r : ℕ) → r < h .records → Sequence (now card) h r) × (modelNumbers h ≤ length (now model)) × (now columns ≡ columnsIn (h .dimension) (h .effects) (h .gates) (now model)) ⌝ }
+    ensures { λ l. ⌜ l ≡ likelihoodBy (lnBy (entriesOf (now (quotients .entry))) (entriesOf (now (remainders .entry)))) deviance tolerance (now (card .entry)) h (now (model .entry)) ⌝ }
+{
+    let count = h.records;
+    let mut l = Likelihood::Fit(Diagnostics {
+        log_likelihood: 0.0,
+        deviance: 0.0,
+    });
+    for r in 0..count {
+        l = record_onward(
+            quotients,
+            remainders,
+            deviance,
+            tolerance,
+            card,
+            h,
+            r,
+            model,
+            columns,
+            l,
+        );
+    }
+    l
+}
+
+// The likelihood of a card's records under the model with these numbers; its gates go by columns to the front of `columns`.
+pub fn fit_diagnostics(
+    card: &[u8],
+    h: Header,
+    model: &[f64],
+    deviance: bool,
+    tolerance: f64,
+    columns: &mut [f64],
+) -> Likelihood
+    requires { ⌜ Shaped (now card) h × ((r : ℕ) → r < h .records → Sequence (now card) h r) × (modelNumbers h ≤ length (now model)) × (h .gates * (h .dimension * h .dimension) ≤ length (now columns)) ⌝ }
+    ensures { λ l. ⌜ (l ≡ likelihoodOf deviance tolerance (now (card .entry)) h (now (model .entry))) × (now (columns .exit) ≡ over (columnsIn (h .dimension) (h .effects) (h .gates) (now (model .entry))) (now (columns .entry))) ⌝ }
+{
+    let d = h.dimension;
+    let gates = h.gates;
+    let size = gates * (d * d);
+    gate_set::gates_by_columns(model, d, h.effects, gates, columns);
+    let t = logarithm::tables();
+    add_records(
+        &t.quotients,
+        &t.remainders,
+        deviance,
+        tolerance,
+        card,
+        h,
+        model,
+        &columns[..size],
+    )
+}

@@ -1,0 +1,5 @@
+pub mod Lending
+pub mod Maps
+pub mod Puts
+pub mod Scores
+pub mod Slopes

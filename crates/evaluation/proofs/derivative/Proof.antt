@@ -1,0 +1,72 @@
+-- `evaluation::derivative` meets its contract. Assumes nothing.
+use mathlib.Core.Path.{_≡_, ap, ap₂, _∙_}
+use denote.Ref.{now}
+use lib.ListN.{set}
+use lib.Ieee.{Float, ofBits}
+use Rattle.numbers.specs.Number.{oneF, abs, max, _+ᶠ_, _-ᶠ_, _*ᶠ_}
+use Rattle.numbers.specs.Slice.{at}
+use Rattle.descent.specs.Fit.{differenceOf, evaluate, displacement, derivative}
+use Rattle.evaluation.specs.Job.{jobBy}
+use Rattle.evaluation.proofs.Lending.{lent-on}
+use borrow.Author.Needs.{needs}
+use Rattle.evaluation.proofs.derivative.Statement.{statement}
+use Rattle.evaluation.proofs.derivative.Tie as tie
+
+mul-x : tie.Need-mul-x
+mul-x c = search needs
+
+shared-slice-read-x : tie.Need-shared-slice-read-x
+shared-slice-read-x c = search needs
+
+abs-of-requires : tie.Need-abs-of-requires
+abs-of-requires c κs = search needs
+
+max-of-requires : tie.Need-max-of-requires
+max-of-requires c κs = search needs
+
+probe-requires : tie.Need-probe-requires
+probe-requires c κs = search needs
+
+probe-requires-2 : tie.Need-probe-requires-2
+probe-requires-2 c κs =
+    let s = c .before .before .before .before .before .before .before .before .before .before .before .before .before .before .before .before .before .before .before .before .before .before .before .before in
+    (lent-on _ _ (s .pre .0) (search needs) (search needs), search needs, search needs, search needs)
+
+difference-requires : tie.Need-difference-requires
+difference-requires c κs = search needs
+
+same-length : tie.Need-same-length
+same-length c = search needs
+
+same-length-2 : tie.Need-same-length-2
+same-length-2 c = search needs
+
+same-length-3 : tie.Need-same-length-3
+same-length-3 c = search needs
+
+returns : tie.Need-returns
+unfolding derivative displacement ofBits
+returns c =
+    let a = c .before .before .before .before .before .before .before .before .before .before .before .before .before .before .before .before .before .before .before .before .before .before .before .before .before .before .before .before .before .before .before .before .args in
+    let J = jobBy (now (a .card)) (a .h) (now (a .places)) (a .c) in
+    let x = at (now (a .xs)) (a .i) in
+    let e : c .before .before .before .before .before .before .before .before .before .before .before .before .before .before .before .before .before .before .before .before .before .before .max-of .result ≡ max (abs x) oneF = c .before .before .before .before .before .before .before .before .before .before .before .before .before .before .before .before .before .before .before .before .before .before .max-of .ensures ∙ ap (λ (y : Float). max y oneF) (c .before .before .before .before .before .before .before .before .before .before .before .before .before .before .before .before .before .before .before .before .before .before .before .abs-of .ensures) in
+    c .difference .ensures
+    ∙ ap₂ (differenceOf (a .o) _) (c .before .before .before .before .before .before .before .before .before .before .before .before .before .before .before .before .before .probe .ensures) (c .before .before .before .before .before .before .before .probe2 .ensures)
+    ∙ ap (λ (m : Float). let h = a .c .«finite_difference_step» *ᶠ m in differenceOf (a .o) h (evaluate J (set (now (a .xs)) (a .i) (x +ᶠ h))) (evaluate J (set (now (a .xs)) (a .i) (x -ᶠ h)))) e
+
+pub derivative-spec : {M : Type 1} → statement M
+derivative-spec =
+    tie.close
+    (tie.spec
+    mul-x
+    shared-slice-read-x
+    abs-of-requires
+    max-of-requires
+    probe-requires
+    probe-requires-2
+    difference-requires
+    same-length
+    same-length-2
+    same-length-3
+    returns)

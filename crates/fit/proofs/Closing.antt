@@ -1,0 +1,53 @@
+-- How a fit ends: the sheet of its last point. Assumes nothing.
+use Prim.Native.Nat.{ℕ, _*_}
+use mathlib.Core.Path.{_≡_, refl, sym, ap, ap₂, subst, _∙_}
+use mathlib.Core.List.{List}
+use lib.Ieee.{Float, le}
+use Rattle.refusal.specs.declared.Refusal.{Refusal}
+use Rattle.likelihood.specs.declared.Diagnostics.{Diagnostics}
+use Rattle.likelihood.specs.declared.Likelihood.{Likelihood}
+use Rattle.descent.specs.declared.GstTermination.{GstTermination}
+use Rattle.descent.specs.declared.GstTermination.the-variants.{GradientTolerance, LineSearchStalled}
+use Rattle.descent.specs.Fit.{Job, Point, Outcome, turned, slopes, unusable, size, modelOf, diagnosticsIn, gradient, norm, reasonAt, closedBy, closed}
+use Rattle.steps.specs.Running.{Steep, Normed}
+use Rattle.steps.specs.declared.Status.{Status}
+use Rattle.steps.specs.declared.Status.the-variants.{Stopped}
+use Rattle.fit.specs.declared.Shown.{Shown}
+use Rattle.fit.specs.declared.Fitting.the-variants as fitting
+use Rattle.fit.specs.Outcome.{shownBy, shownOf, outcomeOf}
+
+module _ (J : Job) (d : Diagnostics) (r : GstTermination) (p : Point) where
+  -- the sheet by the likelihood l of the model m
+  pub shown : (z : Float) (m : List Float) (l : Likelihood) (f : Diagnostics) → m ≡ modelOf J (p .coordinates) → l ≡ J .likelihood m → f ≡ diagnosticsIn l
+      → shownBy d r z p (2 * size J) f ≡ shownOf J d r z p
+  shown z m l f a b e = ap (shownBy d r z p (2 * size J)) (e ∙ ap diagnosticsIn (b ∙ ap (J .likelihood) a))
+
+  -- the final gradient is g, of norm z
+  pub closes : (g : List Float) (z : Float) (k : GstTermination) (q : Shown) (m : List Float) → gradient J (p .coordinates) (p .objective) ≡ slopes g → z ≡ norm J g
+      → k ≡ reasonAt r (le z (J .config .«gradient_tolerance»)) → m ≡ modelOf J (p .coordinates) → q ≡ shownOf J d k z p → outcomeOf (fitting.Fitted q) m ≡ closed J d r p
+  unfolding closed
+  closes g z k q m f n e a s =
+      ap₂ (λ (q : Shown) (m : List Float). outcomeOf (fitting.Fitted q) m) s a
+      ∙ ap₂ (λ (k : GstTermination) (z : Float). outcomeOf (fitting.Fitted (shownOf J d k z p)) (modelOf J (p .coordinates))) (e ∙ ap (λ (z : Float). reasonAt r (le z (J .config .«gradient_tolerance»))) n) n
+      ∙ sym (ap (closedBy J d r p) f)
+
+  -- it is unusable
+  pub closes-refused : {x : Refusal} → gradient J (p .coordinates) (p .objective) ≡ unusable x → turned x ≡ closed J d r p
+  unfolding closed
+  closes-refused f = sym (ap (closedBy J d r p) f)
+
+  -- it was worked out before
+  known : (z : Float) (q : Shown) (m : List Float) → Steep J p z → r ≡ reasonAt r (le z (J .config .«gradient_tolerance»)) → m ≡ modelOf J (p .coordinates) → q ≡ shownOf J d r z p
+      → outcomeOf (fitting.Fitted q) m ≡ closed J d r p
+  known z q m s e a w = closes (s .slope) z r q m (s .found) (sym (s .normed)) e a w
+
+  -- it stopped there by the gradient's test, or since no trial was accepted
+  module _ (z : Float) (t : Status) (n : Normed J p z t) (h : t ≡ Stopped r) (q : Shown) (m : List Float) (a : m ≡ modelOf J (p .coordinates)) (w : q ≡ shownOf J d r z p) where
+    steep-by : (k : GstTermination) → r ≡ k → Normed J p z (Stopped k)
+    steep-by k e = subst (λ (k : GstTermination). Normed J p z (Stopped k)) e (subst (Normed J p z) h n)
+
+    pub known-flat : r ≡ GradientTolerance → outcomeOf (fitting.Fitted q) m ≡ closed J d r p
+    known-flat e = known z q m (steep-by GradientTolerance e) (e ∙ ap (λ (k : GstTermination). reasonAt k (le z (J .config .«gradient_tolerance»))) (sym e)) a w
+
+    pub known-stalled : r ≡ LineSearchStalled → outcomeOf (fitting.Fitted q) m ≡ closed J d r p
+    known-stalled e = known z q m (steep-by LineSearchStalled e) (e ∙ ap (λ (k : GstTermination). reasonAt k (le z (J .config .«gradient_tolerance»))) (sym e)) a w

@@ -1,0 +1,121 @@
+-- `gate_set::gates_by_columns` meets its contract. Assumes nothing.
+use Prim.Native.Nat.{ℕ, _≤_, _-_, _+_, _*_}
+use mathlib.Core.List.{_++_}
+use mathlib.Core.Path.{_≡_, refl, sym, ap, _∙_}
+use native.Mathlib.Nat.{le-of-eq, mul-le-mul}
+use native.Mathlib.Omega.{arith}
+use denote.Ref.{now}
+use lib.ListN.{length, drop}
+use Rattle.lists.proofs.Joined.{Written, written-none, written-part, written-end}
+use Rattle.lists.proofs.Parts.{row-in, row-fits, part-lent, lent-long}
+use Rattle.gate_set.specs.GateSet.{gateIn, columnsOf, columnsIn}
+use Rattle.gate_set.proofs.Columns.{length-columns, length-columns-in}
+use borrow.Author.Needs.{needs}
+use Rattle.gate_set.proofs.gates_by_columns.Statement.{statement}
+use Rattle.gate_set.proofs.gates_by_columns.Tie as tie
+
+abbrev Inv-loop : tie.InvT-loop
+Inv-loop model d e gates out₀ m first g₀ out g = (g ≤ gates) × (length out ≡ length out₀) × Written (λ g. columnsOf d (gateIn d e model g)) out₀ g out
+
+abbrev μ-loop : tie.MeasureT-loop
+μ-loop model d e gates out₀ m first g₀ out g = gates - g
+
+mul-m : tie.Need-mul-m Inv-loop μ-loop
+mul-m c = omega (arith, mul-le-mul (c .before .before .pre .0) (c .before .before .pre .0))
+
+mul-first : tie.Need-mul-first Inv-loop μ-loop
+mul-first c = omega (arith, mul-le-mul (c .before .before .pre .1) (c .before .before .pre .0))
+
+add-first : tie.Need-add-first Inv-loop μ-loop
+add-first c = omega (arith, mul-le-mul (c .before .before .pre .1) (c .before .before .pre .0))
+
+loop-holds : tie.Need-loop-holds Inv-loop μ-loop
+loop-holds c = (search needs, search needs, written-none _ _)
+
+mul-start : tie.Need-mul-start Inv-loop μ-loop
+mul-start c = let s = c .before .before .before .before in omega (arith, row-fits (c .before .loop .g) (s .args .gates) (s .args .d * s .args .d) _ (c .loop-test .taken) (s .pre .4))
+
+add-end : tie.Need-add-end Inv-loop μ-loop
+add-end c = let s = c .before .before .before .before in omega (arith, row-fits (c .before .loop .g) (s .args .gates) (s .args .d * s .args .d) _ (c .loop-test .taken) (s .pre .4))
+
+add-from : tie.Need-add-from Inv-loop μ-loop
+add-from c = let s = c .before .before .before .before in omega (arith, row-in (c .before .loop .g) (s .args .gates) (s .args .d * s .args .d) (c .loop-test .taken))
+
+add-to : tie.Need-add-to Inv-loop μ-loop
+add-to c = let s = c .before .before .before .before in omega (arith, row-in (c .before .loop .g) (s .args .gates) (s .args .d * s .args .d) (c .loop-test .taken))
+
+mul-put-columns : tie.Need-mul-put-columns Inv-loop μ-loop
+mul-put-columns c = let s = c .before .before .before .before in omega (arith, row-in (c .before .loop .g) (s .args .gates) (s .args .d * s .args .d) (c .loop-test .taken))
+
+sub-put-columns : tie.Need-sub-put-columns Inv-loop μ-loop
+sub-put-columns c = search needs
+
+part-put-columns-start : tie.Need-part-put-columns-start Inv-loop μ-loop
+part-put-columns-start c = search needs
+
+part-put-columns-end : tie.Need-part-put-columns-end Inv-loop μ-loop
+part-put-columns-end c = let s = c .before .before .before .before in omega (arith, row-in (c .before .loop .g) (s .args .gates) (s .args .d * s .args .d) (c .loop-test .taken))
+
+mul-put-columns-2 : tie.Need-mul-put-columns-2 Inv-loop μ-loop
+mul-put-columns-2 c = let s = c .before .before .before .before .before in omega (arith, row-fits (c .before .before .loop .g) (s .args .gates) (s .args .d * s .args .d) _ (c .before .loop-test .taken) (s .pre .4))
+
+sub-put-columns-2 : tie.Need-sub-put-columns-2 Inv-loop μ-loop
+sub-put-columns-2 c = search needs
+
+part-put-columns-start-2 : tie.Need-part-put-columns-start-2 Inv-loop μ-loop
+part-put-columns-start-2 c = search needs
+
+part-put-columns-end-2 : tie.Need-part-put-columns-end-2 Inv-loop μ-loop
+part-put-columns-end-2 c = let s = c .before .before .before .before .before in omega (arith, row-fits (c .before .before .loop .g) (s .args .gates) (s .args .d * s .args .d) _ (c .before .loop-test .taken) (s .pre .4))
+
+put-columns-requires : tie.Need-put-columns-requires Inv-loop μ-loop
+put-columns-requires c κs =
+    let s = c .before .before .before .before .before .before in
+    let f = row-in (c .before .before .before .loop .g) (s .args .gates) (s .args .d * s .args .d) (c .before .before .loop-test .taken) in
+    (search needs, le-of-eq (sym (lent-long (s .args .d + s .args .e * s .args .d + c .before .before .before .loop .g * (s .args .d * s .args .d)) _ (s .args .d * s .args .d) (now (s .args .model)) refl (omega arith))), lent-long (c .before .before .before .loop .g * (s .args .d * s .args .d)) _ (s .args .d * s .args .d) (c .before .before .before .loop .out) refl (omega arith))
+
+add-g : tie.Need-add-g Inv-loop μ-loop
+add-g c = search needs
+
+loop-less : tie.Need-loop-less Inv-loop μ-loop
+loop-less c = search needs
+
+loop-again : tie.Need-loop-again Inv-loop μ-loop
+unfolding columnsIn
+loop-again c = let s = c .before .before .before .before .before .before .before .before .before in (search needs, search needs, written-part _ _ (c .before .before .before .before .before .before .loop .g) (s .args .d * s .args .d) _ _ (c .before .before .before .before .before .before .loop .out) _ (length-columns-in (s .args .d) (s .args .e) (c .before .before .before .before .before .before .loop .g) (now (s .args .model))) refl (length-columns (s .args .d) _) (c .before .before .before .before .before .before .loop .inv .2) (c .before .before .put-columns .ensures ∙ ap (columnsOf (s .args .d)) (part-lent (s .args .d + s .args .e * s .args .d + c .before .before .before .before .before .before .loop .g * (s .args .d * s .args .d)) _ (s .args .d * s .args .d) (now (s .args .model)) refl)))
+
+same-length : tie.Need-same-length Inv-loop μ-loop
+same-length c = search needs
+
+returns : tie.Need-returns Inv-loop μ-loop
+unfolding columnsIn
+returns c = let s = c .before .before .before .before in written-end _ _ _ _ _ (omega arith) (c .before .loop .inv .2) ∙ ap (λ (k : ℕ). columnsIn (s .args .d) (s .args .e) (s .args .gates) (now (s .args .model)) ++ drop k (now (s .args .out))) (length-columns-in (s .args .d) (s .args .e) (s .args .gates) (now (s .args .model)))
+
+pub gates-by-columns-spec : {M : Type 1} → statement M
+gates-by-columns-spec =
+    tie.close
+    (tie.spec
+    Inv-loop
+    μ-loop
+    mul-m
+    mul-first
+    add-first
+    loop-holds
+    mul-start
+    add-end
+    add-from
+    add-to
+    mul-put-columns
+    sub-put-columns
+    part-put-columns-start
+    part-put-columns-end
+    mul-put-columns-2
+    sub-put-columns-2
+    part-put-columns-start-2
+    part-put-columns-end-2
+    put-columns-requires
+    add-g
+    loop-less
+    loop-again
+    same-length
+    returns)

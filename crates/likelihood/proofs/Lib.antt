@@ -1,0 +1,5 @@
+pub mod Counts
+pub mod Terms
+pub mod Records
+pub mod Alike
+pub mod Unrefused

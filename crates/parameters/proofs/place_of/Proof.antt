@@ -1,0 +1,65 @@
+-- `parameters::place_of` meets its contract. Assumes nothing.
+use native.Mathlib.Omega.{arith}
+use borrow.Author.Tests.{eq-eqb, ne-eqb}
+use Rattle.lists.proofs.Choices.{yes, no}
+use Rattle.parameters.specs.Parameters.{placeOf}
+use Rattle.parameters.proofs.Fields.{which-most}
+use borrow.Author.Needs.{needs}
+use Rattle.parameters.proofs.place_of.Statement.{statement}
+use Rattle.parameters.proofs.place_of.Tie as tie
+
+returns : tie.Need-returns
+unfolding placeOf
+returns c = yes _ (eq-eqb _ _ (c .if1 .taken))
+
+mul-result : tie.Need-mul-result
+mul-result c = omega (arith, which-most (c .before .before .before .before .before .args .c .which) (c .before .before .before .before .before .args .h .dimension) (c .before .before .before .before .before .pre .1) (search needs))
+
+add-result : tie.Need-add-result
+add-result c = omega (arith, which-most (c .before .before .before .before .before .args .c .which) (c .before .before .before .before .before .args .h .dimension) (c .before .before .before .before .before .pre .1) (search needs))
+
+add-result-2 : tie.Need-add-result-2
+add-result-2 c = omega (arith, which-most (c .before .before .before .before .before .before .args .c .which) (c .before .before .before .before .before .before .args .h .dimension) (c .before .before .before .before .before .before .pre .1) (search needs))
+
+returns-2 : tie.Need-returns-2
+unfolding placeOf
+returns-2 c = no _ (ne-eqb _ _ (c .before .before .before .before .if1 .left)) (yes _ (eq-eqb _ _ (c .before .before .if2 .taken)))
+
+vector-numbers-requires : tie.Need-vector-numbers-requires
+vector-numbers-requires c κs = search needs
+
+square-requires : tie.Need-square-requires
+square-requires c κs = search needs
+
+mul-result-2 : tie.Need-mul-result-2
+mul-result-2 c = omega (arith, which-most (c .before .before .before .before .before .before .before .args .c .which) (c .before .square .result) (c .before .before .before .before .before .before .before .pre .1) (search needs))
+
+add-result-3 : tie.Need-add-result-3
+add-result-3 c = omega (arith, which-most (c .before .before .before .before .before .before .before .args .c .which) (c .before .square .result) (c .before .before .before .before .before .before .before .pre .1) (search needs))
+
+entry-number-requires : tie.Need-entry-number-requires
+entry-number-requires c κs = search needs
+
+add-result-4 : tie.Need-add-result-4
+add-result-4 c = omega (arith, which-most (c .before .before .before .before .before .before .before .before .args .c .which) (c .before .before .square .result) (c .before .before .before .before .before .before .before .before .pre .1) (search needs))
+
+returns-3 : tie.Need-returns-3
+unfolding placeOf
+returns-3 c = no _ (ne-eqb _ _ (c .before .before .before .before .before .before .if1 .left)) (no _ (ne-eqb _ _ (c .before .before .before .before .if2 .left)) (cc))
+
+pub place-of-spec : {M : Type 1} → statement M
+place-of-spec =
+    tie.close
+    (tie.spec
+    returns
+    mul-result
+    add-result
+    add-result-2
+    returns-2
+    vector-numbers-requires
+    square-requires
+    mul-result-2
+    add-result-3
+    entry-number-requires
+    add-result-4
+    returns-3)
