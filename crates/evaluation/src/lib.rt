@@ -7,10 +7,9 @@ use likelihood::Likelihood;
 use refusal::Refusal;
 use refusal::Verdict;
 ghost use mathlib.Core.Path.{_≡_};
-ghost use Prim.Native.Nat.{ℕ, _*_, _≤_, _<_};
+ghost use Prim.Native.Nat.{_*_, _<_};
 ghost use mathlib.Core.List.{map};
 ghost use lib.ListN.{length, set};
-ghost use lib.Ieee.{Float};
 ghost use Rattle.numbers.specs.Number.{_-ᶠ_, _*ᶠ_};
 ghost use Rattle.numbers.specs.Slice.{at};
 ghost use Rattle.root.specs.Root.{sqrt};
@@ -95,7 +94,7 @@ pub fn evaluate(
     columns: &mut [f64],
 ) -> Evaluated
     requires { ⌜ Lent (now card) h (now places) (now anchor) (now model) (now columns) × (length (now xs) ≡ length (now places)) ⌝ }
-    ensures { λ r. ⌜ r ≡ spec.evaluate (jobBy (now (card .entry)) h (now (places .entry)) c) (now (xs .entry)) ⌝ }
+    ensures { λ r. ⌜ (r ≡ spec.evaluate (jobBy (now (card .entry)) h (now (places .entry)) c) (now (xs .entry))) × (length (now (model .exit)) ≡ length (now (model .entry))) × (length (now (columns .exit)) ≡ length (now (columns .entry))) ⌝ }
 {
     if !numbers::all_finite(xs) {
         return Evaluated::Broken(Refusal::NonFinite);
@@ -174,6 +173,8 @@ fn derivative(
 {
     let x = xs[i];
     let e = c.finite_difference_step * numbers::max_of(numbers::abs_of(x), 1.0);
+    let above = x + e;
+    let below = x - e;
     let right = probe(
         card,
         h,
@@ -182,7 +183,7 @@ fn derivative(
         anchor,
         xs,
         i,
-        x + e,
+        above,
         probed,
         model,
         columns,
@@ -195,7 +196,7 @@ fn derivative(
         anchor,
         xs,
         i,
-        x - e,
+        below,
         probed,
         model,
         columns,
@@ -218,7 +219,7 @@ pub fn gradient(
     columns: &mut [f64],
 ) -> Verdict
     requires { ⌜ Lent (now card) h (now places) (now anchor) (now model) (now columns) × (length (now xs) ≡ length (now places)) × (length (now g) ≡ length (now places)) × (length (now probed) ≡ length (now places)) ⌝ }
-    ensures { λ r. ⌜ slopesOf r (now (g .exit)) ≡ spec.gradient (jobBy (now (card .entry)) h (now (places .entry)) c) (now (xs .entry)) o ⌝ }
+    ensures { λ r. ⌜ (slopesOf r (now (g .exit)) ≡ spec.gradient (jobBy (now (card .entry)) h (now (places .entry)) c) (now (xs .entry)) o) × (length (now (probed .exit)) ≡ length (now (probed .entry))) × (length (now (model .exit)) ≡ length (now (model .entry))) × (length (now (columns .exit)) ≡ length (now (columns .entry))) ⌝ }
 {
     let n = xs.len();
     for i in 0..n {

@@ -1,20 +1,27 @@
 -- How a fit ends: the sheet of its last point. Assumes nothing.
-use Prim.Native.Nat.{ℕ, _*_}
-use mathlib.Core.Path.{_≡_, refl, sym, ap, ap₂, subst, _∙_}
+use Prim.Native.Nat.{_*_}
+use mathlib.Core.Path.{_≡_, refl, sym, ap, ap₂, _∙_}
+use mathlib.Core.Bool.{Bool, true}
 use mathlib.Core.List.{List}
 use lib.Ieee.{Float, le}
+use Rattle.numbers.proofs.Leaves.{clash}
 use Rattle.refusal.specs.declared.Refusal.{Refusal}
 use Rattle.likelihood.specs.declared.Diagnostics.{Diagnostics}
 use Rattle.likelihood.specs.declared.Likelihood.{Likelihood}
 use Rattle.descent.specs.declared.GstTermination.{GstTermination}
-use Rattle.descent.specs.declared.GstTermination.the-variants.{GradientTolerance, LineSearchStalled}
-use Rattle.descent.specs.Fit.{Job, Point, Outcome, turned, slopes, unusable, size, modelOf, diagnosticsIn, gradient, norm, reasonAt, closedBy, closed}
-use Rattle.steps.specs.Running.{Steep, Normed}
-use Rattle.steps.specs.declared.Status.{Status}
-use Rattle.steps.specs.declared.Status.the-variants.{Stopped}
+use Rattle.descent.specs.declared.GstTermination.the-variants.{GradientTolerance, ObjectiveTolerance, MaximumIterations, LineSearchStalled}
+use Rattle.descent.specs.Fit.{Job, Point, turned, slopes, unusable, size, modelOf, diagnosticsIn, gradient, norm, reasonAt, closedBy, closed}
+use Rattle.steps.specs.Running.{Steep, keepsNorm}
 use Rattle.fit.specs.declared.Shown.{Shown}
 use Rattle.fit.specs.declared.Fitting.the-variants as fitting
 use Rattle.fit.specs.Outcome.{shownBy, shownOf, outcomeOf}
+
+-- such a reason is none that the last test changes
+reason-kept : (r : GstTermination) (b : Bool) → keepsNorm r ≡ true → r ≡ reasonAt r b
+reason-kept GradientTolerance b h = refl
+reason-kept ObjectiveTolerance b h = refl
+reason-kept MaximumIterations b h = clash h
+reason-kept LineSearchStalled b h = refl
 
 module _ (J : Job) (d : Diagnostics) (r : GstTermination) (p : Point) where
   -- the sheet by the likelihood l of the model m
@@ -37,17 +44,8 @@ module _ (J : Job) (d : Diagnostics) (r : GstTermination) (p : Point) where
   closes-refused f = sym (ap (closedBy J d r p) f)
 
   -- it was worked out before
-  known : (z : Float) (q : Shown) (m : List Float) → Steep J p z → r ≡ reasonAt r (le z (J .config .«gradient_tolerance»)) → m ≡ modelOf J (p .coordinates) → q ≡ shownOf J d r z p
+  pub known : (z : Float) (q : Shown) (m : List Float) → (keepsNorm r ≡ true → Steep J p z) → keepsNorm r ≡ true → m ≡ modelOf J (p .coordinates) → q ≡ shownOf J d r z p
       → outcomeOf (fitting.Fitted q) m ≡ closed J d r p
-  known z q m s e a w = closes (s .slope) z r q m (s .found) (sym (s .normed)) e a w
-
-  -- it stopped there by the gradient's test, or since no trial was accepted
-  module _ (z : Float) (t : Status) (n : Normed J p z t) (h : t ≡ Stopped r) (q : Shown) (m : List Float) (a : m ≡ modelOf J (p .coordinates)) (w : q ≡ shownOf J d r z p) where
-    steep-by : (k : GstTermination) → r ≡ k → Normed J p z (Stopped k)
-    steep-by k e = subst (λ (k : GstTermination). Normed J p z (Stopped k)) e (subst (Normed J p z) h n)
-
-    pub known-flat : r ≡ GradientTolerance → outcomeOf (fitting.Fitted q) m ≡ closed J d r p
-    known-flat e = known z q m (steep-by GradientTolerance e) (e ∙ ap (λ (k : GstTermination). reasonAt k (le z (J .config .«gradient_tolerance»))) (sym e)) a w
-
-    pub known-stalled : r ≡ LineSearchStalled → outcomeOf (fitting.Fitted q) m ≡ closed J d r p
-    known-stalled e = known z q m (steep-by LineSearchStalled e) (e ∙ ap (λ (k : GstTermination). reasonAt k (le z (J .config .«gradient_tolerance»))) (sym e)) a w
+  known z q m s k a w =
+      let g = s k in
+      closes (g .slope) z r q m (g .found) (sym (g .normed)) (reason-kept r _ k) a w

@@ -24,7 +24,8 @@ ghost use Rattle.likelihood.specs.declared.Likelihood.the-variants.{Fit};
 ghost use Rattle.descent.specs.Fit as spec;
 ghost use Rattle.parameters.specs.Parameters.{configOf, placesOf};
 ghost use Rattle.evaluation.specs.Job.{jobBy, Placed, Lent};
-ghost use Rattle.steps.specs.Running.{pointOf, stateOf, Normed, Underway};
+ghost use Rattle.steps.specs.declared.Status.the-variants.{Stopped};
+ghost use Rattle.steps.specs.Running.{pointOf, stateOf, keepsNorm, Normed, Underway};
 ghost use Rattle.fit.specs.Outcome.{jobOf, shownOf, outcomeOf};
 
 // What a sheet shows of a fit beside its model.
@@ -167,7 +168,41 @@ fn close(
     }
 }
 
-// Where the last gradient is the final one it is not worked out again.
+fn keeps_norm(k: GstTermination) -> bool
+    ensures { λ r. ⌜ r ≡ keepsNorm k ⌝ }
+{
+    match k {
+        GstTermination::GradientTolerance => true,
+        GstTermination::ObjectiveTolerance => false,
+        GstTermination::MaximumIterations => false,
+        GstTermination::LineSearchStalled => true,
+    }
+}
+
+// The same, where the last gradient may be the final one: then it is not worked out again.
+fn stop_at(
+    card: &[u8],
+    h: Header,
+    places: &[usize],
+    c: GstOptimizerConfig,
+    anchor: &[f64],
+    initial: Diagnostics,
+    k: GstTermination,
+    r: Running,
+    model: &mut [f64],
+    columns: &mut [f64],
+) -> Fitting
+    requires { ⌜ Lent (now card) h (now places) (now anchor) (now model) (now columns) × Underway r × Normed (jobBy (now card) h (now places) c) (pointOf (length (now places)) r) (r .norm) (Stopped k) ⌝ }
+    ensures { λ q. ⌜ outcomeOf q (now (model .exit)) ≡ spec.closed (jobBy (now (card .entry)) h (now (places .entry)) c) initial k (pointOf (length (now (places .entry))) r) ⌝ }
+{
+    let z = r.norm;
+    if keeps_norm(k) {
+        return Fitting::Fitted(show(card, h, places, c, initial, k, z, r, model, columns));
+    }
+    close(card, h, places, c, anchor, initial, k, r, model, columns)
+}
+
+// The end of a fit that has stopped, or has reached the limit.
 fn finish(
     card: &[u8],
     h: Header,
@@ -183,7 +218,7 @@ fn finish(
     ensures { λ q. ⌜ outcomeOf q (now (model .exit)) ≡ spec.finished (jobBy (now (card .entry)) h (now (places .entry)) c) initial (stateOf (length (now (places .entry))) r) ⌝ }
 {
     let s = r.status;
-    let z = r.norm;
+    let limit = GstTermination::MaximumIterations;
     match s {
         Status::Going => close(
             card,
@@ -192,61 +227,12 @@ fn finish(
             c,
             anchor,
             initial,
-            GstTermination::MaximumIterations,
+            limit,
             r,
             model,
             columns,
         ),
-        Status::Stopped(k) => match k {
-            GstTermination::GradientTolerance => Fitting::Fitted(show(
-                card,
-                h,
-                places,
-                c,
-                initial,
-                k,
-                z,
-                r,
-                model,
-                columns,
-            )),
-            GstTermination::ObjectiveTolerance => close(
-                card,
-                h,
-                places,
-                c,
-                anchor,
-                initial,
-                k,
-                r,
-                model,
-                columns,
-            ),
-            GstTermination::MaximumIterations => close(
-                card,
-                h,
-                places,
-                c,
-                anchor,
-                initial,
-                k,
-                r,
-                model,
-                columns,
-            ),
-            GstTermination::LineSearchStalled => Fitting::Fitted(show(
-                card,
-                h,
-                places,
-                c,
-                initial,
-                k,
-                z,
-                r,
-                model,
-                columns,
-            )),
-        },
+        Status::Stopped(k) => stop_at(card, h, places, c, anchor, initial, k, r, model, columns),
         Status::Turned(x) => Fitting::Refused(x),
     }
 }
@@ -326,7 +312,7 @@ pub fn reconstruct_gate_set(
 ) -> Fitting
     requires { ⌜ Shaped (now card) h × (h .kind ≡ 5) × (h .coordinates ≤ 64) × ((r : ℕ) → r < h .records → Sequence (now card) h r) × ((i : ℕ) → i < h .coordinates → getD (placesOf (now card) h) i 0 < modelNumbers h)
         × (configOf (now card) .«max_backtracks» ≤ 255) × (configOf (now card) .«max_iterations» ≤ 65535) × (length (now model) ≡ modelNumbers h) × (h .gates * (h .dimension * h .dimension) ≤ length (now columns)) ⌝ }
-    ensures { λ q. ⌜ outcomeOf q (now (model .exit)) ≡ spec.fitOf (jobOf (now (card .entry)) h) ⌝ }
+    ensures { λ q. ⌜ (outcomeOf q (now (model .exit)) ≡ spec.fitOf (jobOf (now (card .entry)) h)) × (length (now (model .exit)) ≡ length (now (model .entry))) × (length (now (columns .exit)) ≡ length (now (columns .entry))) ⌝ }
 {
     let n = h.coordinates;
     let c = parameters::config_of(card);

@@ -56,7 +56,7 @@ pub fn search(
 ) -> Search
     requires { ⌜ Lent (now card) h (now places) (now anchor) (now model) (now columns) × (length (now xs) ≡ length (now places)) × (length (now g) ≡ length (now places)) × (length (now t) ≡ length (now places)) × (c .«max_backtracks» ≤ 255) ⌝ }
     ensures { λ r. ⌜ (r ≡ spec.searchTo (jobBy (now (card .entry)) h (now (places .entry)) c) (now (xs .entry)) (now (g .entry)) o (c .«max_backtracks»))
-        × FoundAt (jobBy (now (card .entry)) h (now (places .entry)) c) (now (xs .entry)) (now (g .entry)) (now (t .exit)) r ⌝ }
+        × FoundAt (jobBy (now (card .entry)) h (now (places .entry)) c) (now (xs .entry)) (now (g .entry)) (now (t .exit)) r × (length (now (model .exit)) ≡ length (now (model .entry))) × (length (now (columns .exit)) ≡ length (now (columns .entry))) ⌝ }
 {
     let n = c.max_backtracks;
     let mut s = c.initial_step;

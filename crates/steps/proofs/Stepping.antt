@@ -9,13 +9,14 @@ use lib.Ieee.{Float, le}
 use Rattle.lists.proofs.Choices.{yes, no}
 use Rattle.lists.proofs.Filling.{length-build}
 use Rattle.lists.proofs.Parts.{front-is, front-keeps}
+use Rattle.numbers.proofs.Leaves.{clash}
 use Rattle.refusal.specs.declared.Refusal.{Refusal}
 use Rattle.refusal.specs.declared.Verdict.{Verdict}
 use Rattle.refusal.specs.declared.Verdict.the-variants.{Good, Refused}
 use Rattle.descent.specs.declared.GstTermination.the-variants.{GradientTolerance, ObjectiveTolerance, LineSearchStalled}
 use Rattle.descent.specs.declared.Search.{Search}
 use Rattle.descent.specs.declared.Search.the-variants.{Searching, Found, Lost}
-use Rattle.descent.specs.Fit.{Job, Point, State, going, stopped, refused, slopes, unusable, size, backtracks, gradient, norm, flat, trial, searchTo, small, searched, stepBy, step}
+use Rattle.descent.specs.Fit.{Job, Point, State, going, stopped, slopes, unusable, size, backtracks, gradient, norm, flat, trial, searchTo, small, searched, stepBy, step}
 use Rattle.descent.proofs.Laws.{split}
 use Rattle.evaluation.specs.Job.{slopesOf}
 use Rattle.search.specs.Found.{FoundAt}
@@ -70,7 +71,7 @@ module _ (J : Job) (r q : Running) (u : Underway r) where
 
     -- it passes its test
     pub level : le z (J .config .«gradient_tolerance») ≡ true → q ≡ restOf r (2 * size J) z (Stopped GradientTolerance) → Follows J (size J) r q
-    level h e = rest (2 * size J) z (Stopped GradientTolerance) (omega arith) e (yes _ (test h) ∙ sym by-slopes) (steep _ refl refl)
+    level h e = rest (2 * size J) z (Stopped GradientTolerance) (omega arith) e (yes _ (test h) ∙ sym by-slopes) (λ _. steep _ refl refl)
 
     -- it fails its test, and the search ends with a
     module _ (h : le z (J .config .«gradient_tolerance») ≡ false) (a : Search) (i : a ≡ searchTo J (take (size J) (r .coordinates)) g (r .objective) (backtracks J)) where
@@ -78,7 +79,7 @@ module _ (J : Job) (r q : Running) (u : Underway r) where
       past s j e = no _ (test h) (e ∙ ap (searched J (pointOf (size J) r) g) (sym j ∙ i)) ∙ sym by-slopes
 
       pub stalled : a ≡ Searching → q ≡ restOf r (2 * size J + backtracks J) z (Stopped LineSearchStalled) → Follows J (size J) r q
-      stalled j e = rest (2 * size J + backtracks J) z (Stopped LineSearchStalled) (omega arith) e (past _ j refl) (steep _ refl refl)
+      stalled j e = rest (2 * size J + backtracks J) z (Stopped LineSearchStalled) (omega arith) e (past _ j refl) (λ _. steep _ refl refl)
 
       pub lost : {x : Refusal} → a ≡ Lost x → q ≡ restOf r 0 z (Turned x) → Follows J (size J) r q
       lost {x} j e = rest 0 z (Turned x) (omega arith) e (past _ j refl) tt
@@ -96,7 +97,7 @@ module _ (J : Job) (r q : Running) (u : Underway r) where
             steps = omega arith;
             evaluations = omega arith;
             room = front-keeps (size J) y l (trial J (take (size J) (r .coordinates)) g k) (o .0) long (omega arith) ∙ n;
-            normed = split (λ (b : Bool). Normed J (pointOf (size J) moved) (r .norm) (cond b (Stopped ObjectiveTolerance) Going)) (small J (r .objective) v) (λ _. tt) (λ _. tt);
+            normed = split (λ (b : Bool). Normed J (pointOf (size J) moved) (r .norm) (cond b (Stopped ObjectiveTolerance) Going)) (small J (r .objective) v) (λ _ n. clash n) (λ _. tt);
           })
         where
           moved : Running

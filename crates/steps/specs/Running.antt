@@ -8,6 +8,7 @@ use lib.Ieee.{Float, le}
 use Rattle.lists.specs.Fold.{fold}
 use Rattle.numbers.specs.Number.{_-ᶠ_}
 use Rattle.descent.specs.declared.GstOptimizerConfig.{GstOptimizerConfig}
+use Rattle.descent.specs.declared.GstTermination.{GstTermination}
 use Rattle.descent.specs.declared.GstTermination.the-variants.{GradientTolerance, ObjectiveTolerance, MaximumIterations, LineSearchStalled}
 use Rattle.descent.specs.Fit.{Job, slopes, Point, State, going, stopped, refused, iterations, gradient, norm, step, next}
 use Rattle.steps.specs.declared.Status.{Status}
@@ -32,13 +33,17 @@ pub record Steep (J : Job) (p : Point) (z : Float) : Type 0 where
   pub found : gradient J (p .coordinates) (p .objective) ≡ slopes slope
   pub normed : norm J slope ≡ z
 
--- a fit that stopped at a gradient that it had worked out there keeps its norm, so that it need not be worked out again
+-- the reasons for which a fit stops at a gradient that it has worked out there
+abbrev pub keepsNorm : GstTermination → Bool
+keepsNorm GradientTolerance = true
+keepsNorm ObjectiveTolerance = false
+keepsNorm MaximumIterations = false
+keepsNorm LineSearchStalled = true
+
+-- then it keeps the gradient's norm, so that it need not be worked out again
 abbrev pub Normed : Job → Point → Float → Status → Type 0
 Normed J p z Going = Unit {0}
-Normed J p z (Stopped GradientTolerance) = Steep J p z
-Normed J p z (Stopped ObjectiveTolerance) = Unit {0}
-Normed J p z (Stopped MaximumIterations) = Unit {0}
-Normed J p z (Stopped LineSearchStalled) = Steep J p z
+Normed J p z (Stopped k) = keepsNorm k ≡ true → Steep J p z
 Normed J p z (Turned x) = Unit {0}
 
 -- a running fit whose counts have room for a step more

@@ -192,7 +192,7 @@ pub fn run(
     columns: &mut [f64],
 ) -> Running
     requires { ⌜ Lent (now card) h (now places) (now anchor) (now model) (now columns) × (c .«max_backtracks» ≤ 255) × (c .«max_iterations» ≤ 65535) × (start .evaluations ≡ 1) × (start .steps ≡ 0) × (length (start .coordinates) ≡ 64) × (start .status ≡ Going) ⌝ }
-    ensures { λ q. ⌜ Ran (jobBy (now (card .entry)) h (now (places .entry)) c) (length (now (places .entry))) start q ⌝ }
+    ensures { λ q. ⌜ Ran (jobBy (now (card .entry)) h (now (places .entry)) c) (length (now (places .entry))) start q × (length (now (model .exit)) ≡ length (now (model .entry))) × (length (now (columns .exit)) ≡ length (now (columns .entry))) ⌝ }
 {
     let n = c.max_iterations;
     let mut r = start;

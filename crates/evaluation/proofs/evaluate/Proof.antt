@@ -14,7 +14,7 @@ all-finite-requires c κs = search needs
 
 returns : tie.Need-returns
 unfolding evaluate
-returns c = no _ (sym (c .before .all-finite .ensures) ∙ not-true _ (c .if1 .taken)) refl
+returns c = (no _ (sym (c .before .all-finite .ensures) ∙ not-true _ (c .if1 .taken)) refl, search needs, search needs)
 
 fill-requires : tie.Need-fill-requires
 fill-requires c κs = search needs
@@ -34,7 +34,7 @@ same-length-2 c = search needs
 returns-2 : tie.Need-returns-2
 returns-2 c =
     let a = c .before .before .before .before .before .before .before .before .before .before .before .before .before .before .before .before .before .before .args in
-    evaluate-by (now (a .card)) (a .h) (now (a .places)) (a .c) (now (a .xs)) _ _ _ (sym (c .before .before .before .before .before .before .before .before .before .before .before .all-finite .ensures) ∙ not-false _ (c .before .before .before .before .before .before .before .before .before .before .if1 .left)) (c .before .before .before .before .before .before .before .before .fill .ensures) (c .before .before .before .fit-diagnostics .ensures .0) (c .score .ensures)
+    (evaluate-by (now (a .card)) (a .h) (now (a .places)) (a .c) (now (a .xs)) _ _ _ (sym (c .before .before .before .before .before .before .before .before .before .before .before .all-finite .ensures) ∙ not-false _ (c .before .before .before .before .before .before .before .before .before .before .if1 .left)) (c .before .before .before .before .before .before .before .before .fill .ensures) (c .before .before .before .fit-diagnostics .ensures .0) (c .score .ensures), search needs, search needs)
 
 pub evaluate-spec : {M : Type 1} → statement M
 evaluate-spec =

@@ -57,7 +57,7 @@ unfolding gradient
 returns c =
     let l = c .before .before .before .before .before .before .before .before .before .before .before .before .before .before .loop in
     let s = c .before .before .before .before .before .before .before .before .before .before .before .before .before .before .before .before .before .before .before .before .before .before .before in
-    slopes-stop (derivative (jobBy (now (s .args .card)) (s .args .h) (now (s .args .places)) (s .args .c)) (now (s .args .xs)) (s .args .o)) (l .i) (length (now (s .args .places))) (l .g) _ _ (l .inv .5) (c .before .before .before .before .before .before .before .before .before .derivative .ensures) (c .before .d2 .given .1) (omega (arith, c .before .before .before .before .before .before .before .before .before .before .before .before .before .loop-test .taken, s .pre .1))
+    (slopes-stop (derivative (jobBy (now (s .args .card)) (s .args .h) (now (s .args .places)) (s .args .c)) (now (s .args .xs)) (s .args .o)) (l .i) (length (now (s .args .places))) (l .g) _ _ (l .inv .5) (c .before .before .before .before .before .before .before .before .before .derivative .ensures) (c .before .d2 .given .1) (omega (arith, c .before .before .before .before .before .before .before .before .before .before .before .before .before .loop-test .taken, s .pre .1)), search needs, search needs, search needs)
 
 add-i : tie.Need-add-i Inv-loop μ-loop
 add-i c = search needs
@@ -94,7 +94,7 @@ unfolding gradient
 returns-2 c =
     let l = c .before .loop in
     let s = c .before .before .before .before .before .before .before .before .before .before in
-    slopes-all (derivative (jobBy (now (s .args .card)) (s .args .h) (now (s .args .places)) (s .args .c)) (now (s .args .xs)) (s .args .o)) (l .i) (length (now (s .args .places))) (l .g) (l .inv .5) (omega arith) (search needs)
+    (slopes-all (derivative (jobBy (now (s .args .card)) (s .args .h) (now (s .args .places)) (s .args .c)) (now (s .args .xs)) (s .args .o)) (l .i) (length (now (s .args .places))) (l .g) (l .inv .5) (omega arith) (search needs), search needs, search needs, search needs)
 
 pub gradient-spec : {M : Type 1} → statement M
 gradient-spec =

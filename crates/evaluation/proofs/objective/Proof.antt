@@ -1,7 +1,7 @@
 -- `evaluation::objective` meets its contract. Assumes nothing.
 use mathlib.Core.Path.{sym, ap, _∙_}
 use denote.Ref.{now}
-use lib.Ieee.{neg, ofBits}
+use lib.Ieee.{ofBits}
 use lib.ListN.{length}
 use Rattle.numbers.specs.Slice.{at}
 use Rattle.model_words.specs.Words.{numbersOf}

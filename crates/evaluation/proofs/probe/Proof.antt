@@ -1,10 +1,9 @@
 -- `evaluation::probe` meets its contract. Assumes nothing.
-use Prim.Native.Nat.{ℕ}
-use mathlib.Core.Path.{refl, ap, _∙_}
+use mathlib.Core.Path.{ap, _∙_}
 use mathlib.Core.List.{List}
 use native.Mathlib.Omega.{arith}
 use denote.Ref.{now}
-use lib.ListN.{length, set, take, length-set}
+use lib.ListN.{length, set, length-set}
 use lib.Seq.{take-all}
 use lib.Ieee.{Float}
 use Rattle.descent.specs.Fit.{evaluate}
@@ -40,7 +39,7 @@ returns : tie.Need-returns
 returns c =
     let s = c .before .before .before .before .before .before .before .before .before .before .before .before .before .before .before .before .before .before .before in
     let a = s .args in
-    c .before .before .before .before .evaluate .ensures
+    c .before .before .before .before .evaluate .ensures .0
     ∙ ap (λ (l : List Float). evaluate (jobBy (now (a .card)) (a .h) (now (a .places)) (a .c)) (set l (a .i) (a .v)))
     (c .before .before .before .before .before .before .before .before .before .before .put-row .ensures ∙ take-all (length (now (a .probed))) (now (a .xs)) (omega arith))
 

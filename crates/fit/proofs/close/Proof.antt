@@ -96,7 +96,7 @@ returns c =
     let n : length y ≡ P = c .before .before .before .before .before .before .before .before .before .before .before .before .before .before .before .before .before .before .before .gradient .kept .1 .1 .1 .1 .1 .1 .1 .0 ∙ length-take-le _ _ (omega (arith, s .pre .0 .placed .few, c .before .before .before .before .before .before .before .before .before .before .before .before .before .before .before .before .before .before .before .before .before .before .before .before .before .before .room .ensures)) in
     let g = take P (y ++ drop P (c .before .before .before .before .before .before .before .before .before .before .before .before .before .before .before .before .before .before .before .before .before .before .before .before .before .before .room .result)) in
     let z = norm-by J g _ (length-take-le _ _ (front-long P y (c .before .before .before .before .before .before .before .before .before .before .before .before .before .before .before .before .before .before .before .before .before .before .before .before .before .before .room .result) y refl n)) (c .before .before .before .before .before .before .before .before .before .norm .ensures) in
-    closes J (s .args .initial) (s .args .stop) (pointOf P (s .args .r)) g _ _ _ _ (sloped J _ _ y (c .before .before .before .before .before .before .before .before .before .before .before .before .before .before .before .before .before .before .before .before .before .before .before .before .before .before .room .result) _ (c .before .before .before .before .before .before .before .before .before .before .before .before .before .before .before .before .before .before .before .gradient .ensures) (c .before .before .before .before .before .before .before .before .before .before .before .enum-told .given .1) n) z (c .before .before .before .before .before .before .before .reason .ensures) (c .before .before .before .before .show .ensures .0) (c .before .before .before .before .show .ensures .1)
+    closes J (s .args .initial) (s .args .stop) (pointOf P (s .args .r)) g _ _ _ _ (sloped J _ _ y (c .before .before .before .before .before .before .before .before .before .before .before .before .before .before .before .before .before .before .before .before .before .before .before .before .before .before .room .result) _ (c .before .before .before .before .before .before .before .before .before .before .before .before .before .before .before .before .before .before .before .gradient .ensures .0) (c .before .before .before .before .before .before .before .before .before .before .before .enum-told .given .1) n) z (c .before .before .before .before .before .before .before .reason .ensures) (c .before .before .before .before .show .ensures .0) (c .before .before .before .before .show .ensures .1)
 
 same-length-3 : tie.Need-same-length-3
 same-length-3 c = search needs
@@ -108,7 +108,7 @@ returns-2 : tie.Need-returns-2
 returns-2 c =
     let s = c .before .before .before .before .before .before .before .before .before .before .before .before .before .before .before .before .before .before .before .before .before .before .before in
     let J = jobBy (now (s .args .card)) (s .args .h) (now (s .args .places)) (s .args .c) in
-    closes-refused J (s .args .initial) (s .args .stop) (pointOf (length (now (s .args .places))) (s .args .r)) (slopeless J _ _ _ (c .before .before .before .before .before .before .before .before .before .before .before .before .before .before .before .before .room .result) _ (c .before .before .before .before .before .before .before .before .before .gradient .ensures) (c .before .found .given .1))
+    closes-refused J (s .args .initial) (s .args .stop) (pointOf (length (now (s .args .places))) (s .args .r)) (slopeless J _ _ _ (c .before .before .before .before .before .before .before .before .before .before .before .before .before .before .before .before .room .result) _ (c .before .before .before .before .before .before .before .before .before .gradient .ensures .0) (c .before .found .given .1))
 
 pub close-spec : {M : Type 1} → statement M
 close-spec =

@@ -1,6 +1,5 @@
 -- `fit::fit_at` meets its contract. Assumes nothing.
-use mathlib.Core.Path.{_≡_, refl, sym, ap, _∙_}
-use native.Mathlib.Omega.{arith}
+use mathlib.Core.Path.{refl, sym, ap, _∙_}
 use denote.Ref.{now}
 use Rattle.model_words.specs.Words.{numbersOf}
 use Rattle.model_words.proofs.Sizes.{length-model}

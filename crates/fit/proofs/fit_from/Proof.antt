@@ -1,13 +1,11 @@
 -- `fit::fit_from` meets its contract. Assumes nothing.
-use mathlib.Core.Path.{_≡_, refl, sym, ap, subst, _∙_}
+use mathlib.Core.Path.{refl, sym, ap, _∙_}
 use native.Mathlib.Omega.{arith}
 use denote.Ref.{now}
 use lib.ListN.{length}
 use lib.Seq.{length-take-le}
-use lib.Ieee.{ofBits}
 use Rattle.model_words.proofs.Sizes.{length-model}
-use Rattle.evaluation.specs.Job.{jobBy, Lent}
-use Rattle.evaluation.proofs.Lending.{lent-on}
+use Rattle.evaluation.specs.Job.{jobBy}
 use Rattle.fit.proofs.Whole.{read-front, read-fits, read-room, begins, fit-ends}
 use borrow.Author.Needs.{needs}
 use Rattle.fit.proofs.fit_from.Statement.{statement}
@@ -94,7 +92,7 @@ finish-requires c κs =
     let s = c .before .before .before .before .before .before .before .before .before .before .before .before .before .before .before .before .before .before .before .before .before .before .before in
     let J = jobBy (now (s .args .card)) (s .args .h) (now (s .args .places)) (s .args .c) in
     let k = c .before .before .before .before .before .before .before .run .kept .1 .1 .1 .1 .1 .1 in
-    (record { placed = s .pre .0; anchored = read-front J (now (s .args .model)) (c .before .before .before .before .before .before .before .before .before .before .before .before .before .before .before .read .last .1 .1 .0) (c .before .before .before .before .before .before .before .before .before .before .before .before .before .before .before .before .before .before .room .result) (c .before .before .before .before .before .before .before .before .before .before .before .before .before .before .before .read .ensures) (s .pre .1); model-room = k .0 ∙ ap length (s .pre .1) ∙ length-model _ _; columns-room = omega (arith, k .1 .0, s .pre .2) }, c .before .before .before .before .before .before .before .run .ensures .underway, c .before .before .before .before .before .before .before .run .ensures .normed)
+    (record { placed = s .pre .0; anchored = read-front J (now (s .args .model)) (c .before .before .before .before .before .before .before .before .before .before .before .before .before .before .before .read .last .1 .1 .0) (c .before .before .before .before .before .before .before .before .before .before .before .before .before .before .before .before .before .before .room .result) (c .before .before .before .before .before .before .before .before .before .before .before .before .before .before .before .read .ensures) (s .pre .1); model-room = k .0 ∙ ap length (s .pre .1) ∙ length-model _ _; columns-room = omega (arith, k .1 .0, s .pre .2) }, c .before .before .before .before .before .before .before .run .ensures .0 .underway, c .before .before .before .before .before .before .before .run .ensures .0 .normed)
 
 same-length : tie.Need-same-length
 same-length c = search needs
@@ -106,7 +104,7 @@ returns : tie.Need-returns
 returns c =
     let s = c .before .before .before .before .before .before .before .before .before .before .before .before .before .before .before .before .before .before .before .before .before .before .before .before .before .before .before .before in
     let J = jobBy (now (s .args .card)) (s .args .h) (now (s .args .places)) (s .args .c) in
-    c .before .before .before .before .finish .ensures ∙ fit-ends J (s .args .d) (s .pre .5) _ _ (begins J (s .args .d) (s .pre .5) _ _ (read-front J (now (s .args .model)) (c .before .before .before .before .before .before .before .before .before .before .before .before .before .before .before .before .before .before .before .before .read .last .1 .1 .0) (c .before .before .before .before .before .before .before .before .before .before .before .before .before .before .before .before .before .before .before .before .before .before .before .room .result) (c .before .before .before .before .before .before .before .before .before .before .before .before .before .before .before .before .before .before .before .before .read .ensures) (s .pre .1)) (c .before .before .before .before .before .before .before .before .before .before .before .before .before .before .before .before .objective .ensures)) (c .before .before .before .before .before .before .before .before .before .before .before .before .run .ensures .state)
+    c .before .before .before .before .finish .ensures ∙ fit-ends J (s .args .d) (s .pre .5) _ _ (begins J (s .args .d) (s .pre .5) _ _ (read-front J (now (s .args .model)) (c .before .before .before .before .before .before .before .before .before .before .before .before .before .before .before .before .before .before .before .before .read .last .1 .1 .0) (c .before .before .before .before .before .before .before .before .before .before .before .before .before .before .before .before .before .before .before .before .before .before .before .room .result) (c .before .before .before .before .before .before .before .before .before .before .before .before .before .before .before .before .before .before .before .before .read .ensures) (s .pre .1)) (c .before .before .before .before .before .before .before .before .before .before .before .before .before .before .before .before .objective .ensures)) (c .before .before .before .before .before .before .before .before .before .before .before .before .run .ensures .0 .state)
 
 pub fit-from-spec : {M : Type 1} → statement M
 fit-from-spec =

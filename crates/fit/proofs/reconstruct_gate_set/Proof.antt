@@ -1,8 +1,7 @@
 -- `fit::reconstruct_gate_set` meets its contract. Assumes nothing.
 use Prim.Native.Nat.{_≤_}
-use mathlib.Core.Path.{_≡_, sym, ap, subst, _∙_}
+use mathlib.Core.Path.{sym, ap, subst, _∙_}
 use denote.Ref.{now}
-use lib.ListN.{length, drop}
 use Rattle.lists.proofs.Parts.{front-again, front-length}
 use Rattle.descent.specs.declared.GstOptimizerConfig.{GstOptimizerConfig}
 use Rattle.descent.specs.Fit.{fitOf}
@@ -56,7 +55,7 @@ returns : tie.Need-returns
 returns c =
     let s = c .before .before .before .before .before .before .before .before .before .before .before .before .before .before .before .before in
     let ps = front-again (placesOf (now (s .args .card)) (s .args .h)) _ (c .before .before .before .before .before .before .before .before .before .load-places .ensures) (length-places _ _) in
-    c .before .before .before .before .fit-at .ensures ∙ ap fitOf (job-by (now (s .args .card)) (s .args .h) _ _ ps (c .before .before .before .before .before .before .before .before .before .before .before .before .config-of .ensures))
+    (c .before .before .before .before .fit-at .ensures ∙ ap fitOf (job-by (now (s .args .card)) (s .args .h) _ _ ps (c .before .before .before .before .before .before .before .before .before .before .before .before .config-of .ensures)), search needs, search needs)
 
 pub reconstruct-gate-set-spec : {M : Type 1} → statement M
 reconstruct-gate-set-spec =

@@ -60,7 +60,7 @@ loop-again c =
       search needs,
       search needs,
       length-halved J (l .k) (l .s) (l .inv .4),
-      search-on J (now (s .args .xs)) (now (s .args .g)) (s .args .o) (l .k) _ _ _ (l .inv .5) t (c .before .before .before .before .before .before .before .evaluate .ensures) (c .before .before .judge .ensures) (c .enum-told .given .1),
+      search-on J (now (s .args .xs)) (now (s .args .g)) (s .args .o) (l .k) _ _ _ (l .inv .5) t (c .before .before .before .before .before .before .before .evaluate .ensures .0) (c .before .before .judge .ensures) (c .enum-told .given .1),
     )
 
 enum-told-2 : tie.Need-enum-told-2 Inv-loop μ-loop
@@ -81,8 +81,10 @@ returns c =
     let s = c .before .before .before .before .before .before .before .before .before .before .before .before .before .before .before .before .before .before .before .before .before .before .before .before .before in
     let J = jobBy (now (s .args .card)) (s .args .h) (now (s .args .places)) (s .args .c) in
     let t = trial-by J (now (s .args .xs)) (now (s .args .g)) (l .k) _ (l .s) _ (l .inv .1 ∙ s .pre .3) (l .inv .4) (c .before .before .before .before .before .before .before .before .before .before .before .before .before .trial .ensures) in (
-      search-found J (now (s .args .xs)) (now (s .args .g)) (s .args .o) (l .k) _ _ _ (l .inv .5) t (c .before .before .before .before .before .before .before .evaluate .ensures) (c .before .before .judge .ensures) (s .args .c .«max_backtracks») (c .before .before .before .before .before .before .before .before .before .before .before .before .before .before .before .loop-test .taken) (c .enum-told2 .given .1),
-      found-at J (now (s .args .xs)) (now (s .args .g)) (s .args .o) (l .k) _ _ _ (l .inv .5) t (c .before .before .before .before .before .before .before .evaluate .ensures) (c .before .before .judge .ensures) (c .before .before .before .before .before .before .before .before .before .before .before .before .before .before .before .loop-test .taken),
+      search-found J (now (s .args .xs)) (now (s .args .g)) (s .args .o) (l .k) _ _ _ (l .inv .5) t (c .before .before .before .before .before .before .before .evaluate .ensures .0) (c .before .before .judge .ensures) (s .args .c .«max_backtracks») (c .before .before .before .before .before .before .before .before .before .before .before .before .before .before .before .loop-test .taken) (c .enum-told2 .given .1),
+      found-at J (now (s .args .xs)) (now (s .args .g)) (s .args .o) (l .k) _ _ _ (l .inv .5) t (c .before .before .before .before .before .before .before .evaluate .ensures .0) (c .before .before .judge .ensures) (c .before .before .before .before .before .before .before .before .before .before .before .before .before .before .before .loop-test .taken),
+      search needs,
+      search needs,
     )
 
 enum-told-3 : tie.Need-enum-told-3 Inv-loop μ-loop
@@ -103,8 +105,10 @@ returns-2 c =
     let s = c .before .before .before .before .before .before .before .before .before .before .before .before .before .before .before .before .before .before .before .before .before .before .before .before .before in
     let J = jobBy (now (s .args .card)) (s .args .h) (now (s .args .places)) (s .args .c) in
     let t = trial-by J (now (s .args .xs)) (now (s .args .g)) (l .k) _ (l .s) _ (l .inv .1 ∙ s .pre .3) (l .inv .4) (c .before .before .before .before .before .before .before .before .before .before .before .before .before .trial .ensures) in (
-      search-lost J (now (s .args .xs)) (now (s .args .g)) (s .args .o) (l .k) _ _ _ (l .inv .5) t (c .before .before .before .before .before .before .before .evaluate .ensures) (c .before .before .judge .ensures) (s .args .c .«max_backtracks») (c .before .before .before .before .before .before .before .before .before .before .before .before .before .before .before .loop-test .taken) (c .enum-told3 .given .1),
-      found-at J (now (s .args .xs)) (now (s .args .g)) (s .args .o) (l .k) _ _ _ (l .inv .5) t (c .before .before .before .before .before .before .before .evaluate .ensures) (c .before .before .judge .ensures) (c .before .before .before .before .before .before .before .before .before .before .before .before .before .before .before .loop-test .taken),
+      search-lost J (now (s .args .xs)) (now (s .args .g)) (s .args .o) (l .k) _ _ _ (l .inv .5) t (c .before .before .before .before .before .before .before .evaluate .ensures .0) (c .before .before .judge .ensures) (s .args .c .«max_backtracks») (c .before .before .before .before .before .before .before .before .before .before .before .before .before .before .before .loop-test .taken) (c .enum-told3 .given .1),
+      found-at J (now (s .args .xs)) (now (s .args .g)) (s .args .o) (l .k) _ _ _ (l .inv .5) t (c .before .before .before .before .before .before .before .evaluate .ensures .0) (c .before .before .judge .ensures) (c .before .before .before .before .before .before .before .before .before .before .before .before .before .before .before .loop-test .taken),
+      search needs,
+      search needs,
     )
 
 same-length-7 : tie.Need-same-length-7 Inv-loop μ-loop
@@ -120,7 +124,7 @@ returns-3 : tie.Need-returns-3 Inv-loop μ-loop
 returns-3 c =
     let l = c .before .loop in
     let a = c .before .before .before .before .before .before .before .before .before .before .args in
-    (search-all (jobBy (now (a .card)) (a .h) (now (a .places)) (a .c)) (now (a .xs)) (now (a .g)) (a .o) (l .k) (a .c .«max_backtracks») (omega arith) (l .inv .5), tt)
+    (search-all (jobBy (now (a .card)) (a .h) (now (a .places)) (a .c)) (now (a .xs)) (now (a .g)) (a .o) (l .k) (a .c .«max_backtracks») (omega arith) (l .inv .5), tt, search needs, search needs)
 
 pub search-spec : {M : Type 1} → statement M
 search-spec =

@@ -1,11 +1,9 @@
 -- `steps::descend` meets its contract. Assumes nothing.
-use Prim.Native.Nat.{_+_, _*_, _≤_}
-use mathlib.Core.Path.{_≡_, sym}
+use mathlib.Core.Path.{sym}
 use native.Mathlib.Omega.{arith}
 use denote.Ref.{now}
 use lib.ListN.{length, take}
 use lib.Seq.{length-take-le}
-use mir.Val.{Fits}
 use Rattle.evaluation.specs.Job.{jobBy}
 use Rattle.evaluation.proofs.Slopes.{norm-by}
 use Rattle.steps.proofs.Stepping.{found-few, level, stalled, lost, accepted}

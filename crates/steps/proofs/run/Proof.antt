@@ -1,6 +1,6 @@
 -- `steps::run` meets its contract. Assumes nothing.
 use Prim.Native.Nat.{_+_, _*_, _≤_, _-_}
-use mathlib.Core.Path.{_≡_, sym, ap, subst, _∙_}
+use mathlib.Core.Path.{_≡_, sym, subst, _∙_}
 use native.Mathlib.Omega.{arith}
 use denote.Ref.{now}
 use lib.ListN.{length}
@@ -10,7 +10,6 @@ use Rattle.lists.proofs.Folding.{fold-none, fold-end}
 use Rattle.descent.specs.Fit.{next}
 use Rattle.evaluation.specs.Job.{jobBy}
 use Rattle.evaluation.proofs.Lending.{lent-on}
-use Rattle.steps.specs.declared.Status.{Status}
 use Rattle.steps.specs.Running.{pointOf, stateOf, Normed}
 use Rattle.steps.proofs.Runs.{run-more, run-ended}
 use borrow.Author.Needs.{needs}
@@ -53,12 +52,15 @@ returns : tie.Need-returns Inv-loop μ-loop
 returns c =
     let s = c .before .before .before .before .before .before .before .before .before in
     let l = c .before .before .before .loop in
-    let J = jobBy (now (s .args .card)) (s .args .h) (now (s .args .places)) (s .args .c) in
-    record {
-      state = run-ended J (length (now (s .args .places))) _ (l .i) (l .r) (l .inv .6) (s .args .c .«max_iterations») (l .inv .0) (sym (c .before .is-going .ensures) ∙ not-true _ (c .if1 .taken));
-      underway = record { steps = omega (arith, l .inv .3, l .inv .0, s .pre .2); evaluations = omega (arith, l .inv .4, l .inv .0, s .pre .2); room = l .inv .5 };
-      normed = l .inv .7;
-    }
+    let J = jobBy (now (s .args .card)) (s .args .h) (now (s .args .places)) (s .args .c) in (
+      record {
+        state = run-ended J (length (now (s .args .places))) _ (l .i) (l .r) (l .inv .6) (s .args .c .«max_iterations») (l .inv .0) (sym (c .before .is-going .ensures) ∙ not-true _ (c .if1 .taken));
+        underway = record { steps = omega (arith, l .inv .3, l .inv .0, s .pre .2); evaluations = omega (arith, l .inv .4, l .inv .0, s .pre .2); room = l .inv .5 };
+        normed = l .inv .7;
+      },
+      search needs,
+      search needs,
+    )
 
 step-requires : tie.Need-step-requires Inv-loop μ-loop
 step-requires c κs =
@@ -100,12 +102,15 @@ same-length-4 c = search needs
 returns-2 : tie.Need-returns-2 Inv-loop μ-loop
 returns-2 c =
     let s = c .before .before .before .before .before .before .before in
-    let l = c .before .loop in
-    record {
-      state = fold-end _ (l .i) (s .args .c .«max_iterations») _ _ (omega arith) (l .inv .6);
-      underway = record { steps = omega (arith, l .inv .3, l .inv .0, s .pre .2); evaluations = omega (arith, l .inv .4, l .inv .0, s .pre .2); room = l .inv .5 };
-      normed = l .inv .7;
-    }
+    let l = c .before .loop in (
+      record {
+        state = fold-end _ (l .i) (s .args .c .«max_iterations») _ _ (omega arith) (l .inv .6);
+        underway = record { steps = omega (arith, l .inv .3, l .inv .0, s .pre .2); evaluations = omega (arith, l .inv .4, l .inv .0, s .pre .2); room = l .inv .5 };
+        normed = l .inv .7;
+      },
+      search needs,
+      search needs,
+    )
 
 pub run-spec : {M : Type 1} → statement M
 run-spec =

@@ -2,7 +2,7 @@
 use mathlib.Core.Path.{_≡_, refl, sym, _∙_}
 use native.Mathlib.Omega.{arith}
 use denote.Ref.{now}
-use lib.ListN.{length, take}
+use lib.ListN.{length}
 use lib.Seq.{length-take-le}
 use Rattle.lists.proofs.Parts.{front-keeps}
 use Rattle.evaluation.specs.Job.{jobBy}
@@ -60,7 +60,7 @@ descend-requires c κs =
       s .pre .1,
       s .pre .2,
       front-keeps (length (now (s .args .places))) y (c .before .before .before .before .before .before .before .before .before .before .before .before .before .before .before .before .before .room .result) y refl n (omega (arith, s .pre .0 .placed .few, c .before .before .before .before .before .before .before .before .before .before .before .before .before .before .before .before .before .room .ensures)) ∙ sym (c .before .before .before .before .before .before .before .before .before .before .before .before .before .before .before .before .before .room .ensures),
-      sloped J _ _ y (c .before .before .before .before .before .before .before .before .before .before .before .before .before .before .before .before .before .room .result) _ (c .before .before .before .before .before .before .before .before .before .before .gradient .ensures) (c .before .before .enum-told .given .1) n,
+      sloped J _ _ y (c .before .before .before .before .before .before .before .before .before .before .before .before .before .before .before .before .before .room .result) _ (c .before .before .before .before .before .before .before .before .before .before .gradient .ensures .0) (c .before .before .enum-told .given .1) n,
     )
 
 enum-known-found : tie.Need-enum-known-found
@@ -88,7 +88,7 @@ returns-2 : tie.Need-returns-2
 returns-2 c =
     let s = c .before .before .before .before .before .before .before .before .before .before .before .before .before .before .before .before .before .before .before .before .before .before .before .before in
     let J = jobBy (now (s .args .card)) (s .args .h) (now (s .args .places)) (s .args .c) in
-    unsloped J (s .args .r) _ (s .pre .2) _ _ (slopeless J _ _ _ (c .before .before .before .before .before .before .before .before .before .before .before .before .before .before .before .before .before .room .result) _ (c .before .before .before .before .before .before .before .before .before .before .gradient .ensures) (c .before .before .found .given .1)) (c .with-status .ensures)
+    unsloped J (s .args .r) _ (s .pre .2) _ _ (slopeless J _ _ _ (c .before .before .before .before .before .before .before .before .before .before .before .before .before .before .before .before .before .room .result) _ (c .before .before .before .before .before .before .before .before .before .before .gradient .ensures .0) (c .before .before .found .given .1)) (c .with-status .ensures)
 
 pub step-spec : {M : Type 1} → statement M
 step-spec =
