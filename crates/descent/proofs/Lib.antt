@@ -5,3 +5,4 @@ pub mod Steps
 pub mod Points
 pub mod Counts
 pub mod Prefix
+pub mod Refusals

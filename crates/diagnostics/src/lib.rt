@@ -59,7 +59,7 @@ fn probabilities_room() -> [f64; 16]
     [0.0; 16]
 }
 
-// Record r, whose gates are all there.
+// Record r, whose gates are all there; its counts and probabilities go to the front of `counts` and `ps`.
 fn weigh_record<'a>(
     quotients: &'a [u64; 257],
     remainders: &'a [u64; 257],
@@ -71,16 +71,16 @@ fn weigh_record<'a>(
     model: &[f64],
     columns: &[f64],
     sequence: &[usize],
+    counts: &mut [u64],
+    ps: &mut [f64],
     d: Diagnostics,
 ) -> Likelihood
-    requires { ⌜ Shaped (now card) h × (r < h .records) × (modelNumbers h ≤ length (now model)) × (now columns ≡ columnsIn (h .dimension) (h .effects) (h .gates) (now model)) × (presentOf (h .gates) (now sequence) ≡ Good) ⌝ }
+    requires { ⌜ Shaped (now card) h × (r < h .records) × (modelNumbers h ≤ length (now model)) × (now columns ≡ columnsIn (h .dimension) (h .effects) (h .gates) (now model)) × (presentOf (h .gates) (now sequence) ≡ Good) × (16 ≤ length (now counts)) × (16 ≤ length (now ps)) ⌝ }
     ensures { λ l. ⌜ l ≡ withRecord (lnBy (entriesOf (now (quotients .entry))) (entriesOf (now (remainders .entry)))) deviance tolerance (countsOf (now (card .entry)) h r) (probabilitiesOf (h .dimension) (h .effects) (now (model .entry)) (now (sequence .entry))) d ⌝ }
 {
     let e = h.effects;
-    let mut counts = counts_room();
-    let mut ps = probabilities_room();
-    load_counts(card, h, r, &mut counts);
-    gate_set::probabilities(model, columns, sequence, h.dimension, e, &mut ps);
+    load_counts(card, h, r, counts);
+    gate_set::probabilities(model, columns, sequence, h.dimension, e, ps);
     likelihood::with_record(
         quotients,
         remainders,
@@ -92,7 +92,7 @@ fn weigh_record<'a>(
     )
 }
 
-// Adds record r's terms to d.
+// Adds record r's terms to d; its sequence, counts and probabilities go to the front of their rooms.
 fn add_record<'a>(
     quotients: &'a [u64; 257],
     remainders: &'a [u64; 257],
@@ -103,14 +103,16 @@ fn add_record<'a>(
     r: usize,
     model: &[f64],
     columns: &[f64],
+    sequence: &mut [usize],
+    counts: &mut [u64],
+    ps: &mut [f64],
     d: Diagnostics,
 ) -> Likelihood
-    requires { ⌜ Shaped (now card) h × Sequence (now card) h r × (modelNumbers h ≤ length (now model)) × (now columns ≡ columnsIn (h .dimension) (h .effects) (h .gates) (now model)) ⌝ }
+    requires { ⌜ Shaped (now card) h × Sequence (now card) h r × (modelNumbers h ≤ length (now model)) × (now columns ≡ columnsIn (h .dimension) (h .effects) (h .gates) (now model)) × (64 ≤ length (now sequence)) × (16 ≤ length (now counts)) × (16 ≤ length (now ps)) ⌝ }
     ensures { λ l. ⌜ l ≡ recordOnward (lnBy (entriesOf (now (quotients .entry))) (entriesOf (now (remainders .entry)))) deviance tolerance (now (card .entry)) h (now (model .entry)) r d ⌝ }
 {
     let n = sequence_length(card, h, r);
-    let mut sequence = sequence_room();
-    load_sequence(card, h, r, n, &mut sequence);
+    load_sequence(card, h, r, n, sequence);
     let found = gate_set::check_sequence(&sequence[..n], h.gates);
     match found {
         Verdict::Refused(x) => Likelihood::Refused(x),
@@ -125,6 +127,8 @@ fn add_record<'a>(
             model,
             columns,
             &sequence[..n],
+            counts,
+            ps,
             d,
         ),
     }
@@ -141,9 +145,12 @@ fn record_onward<'a>(
     r: usize,
     model: &[f64],
     columns: &[f64],
+    sequence: &mut [usize],
+    counts: &mut [u64],
+    ps: &mut [f64],
     l: Likelihood,
 ) -> Likelihood
-    requires { ⌜ Shaped (now card) h × Sequence (now card) h r × (modelNumbers h ≤ length (now model)) × (now columns ≡ columnsIn (h .dimension) (h .effects) (h .gates) (now model)) ⌝ }
+    requires { ⌜ Shaped (now card) h × Sequence (now card) h r × (modelNumbers h ≤ length (now model)) × (now columns ≡ columnsIn (h .dimension) (h .effects) (h .gates) (now model)) × (64 ≤ length (now sequence)) × (16 ≤ length (now counts)) × (16 ≤ length (now ps)) ⌝ }
     ensures { λ m. ⌜ m ≡ onward (recordOnward (lnBy (entriesOf (now (quotients .entry))) (entriesOf (now (remainders .entry)))) deviance tolerance (now (card .entry)) h (now (model .entry)) r) l ⌝ }
 {
     match l {
@@ -157,6 +164,9 @@ fn record_onward<'a>(
             r,
             model,
             columns,
+            sequence,
+            counts,
+            ps,
             d,
         ),
         Likelihood::Failed => Likelihood::Failed,
@@ -173,8 +183,11 @@ fn add_records<'a>(
     h: Header,
     model: &[f64],
     columns: &[f64],
+    sequence: &mut [usize],
+    counts: &mut [u64],
+    ps: &mut [f64],
 ) -> Likelihood
-    requires { ⌜ Shaped (now card) h × ((r : ℕ) → r < h .records → Sequence (now card) h r) × (modelNumbers h ≤ length (now model)) × (now columns ≡ columnsIn (h .dimension) (h .effects) (h .gates) (now model)) ⌝ }
+    requires { ⌜ Shaped (now card) h × ((r : ℕ) → r < h .records → Sequence (now card) h r) × (modelNumbers h ≤ length (now model)) × (now columns ≡ columnsIn (h .dimension) (h .effects) (h .gates) (now model)) × (64 ≤ length (now sequence)) × (16 ≤ length (now counts)) × (16 ≤ length (now ps)) ⌝ }
     ensures { λ l. ⌜ l ≡ likelihoodBy (lnBy (entriesOf (now (quotients .entry))) (entriesOf (now (remainders .entry)))) deviance tolerance (now (card .entry)) h (now (model .entry)) ⌝ }
 {
     let count = h.records;
@@ -193,6 +206,9 @@ fn add_records<'a>(
             r,
             model,
             columns,
+            sequence,
+            counts,
+            ps,
             l,
         );
     }
@@ -216,6 +232,9 @@ pub fn fit_diagnostics(
     let size = gates * (d * d);
     gate_set::gates_by_columns(model, d, h.effects, gates, columns);
     let t = logarithm::tables();
+    let mut sequence = sequence_room();
+    let mut counts = counts_room();
+    let mut ps = probabilities_room();
     add_records(
         &t.quotients,
         &t.remainders,
@@ -225,5 +244,8 @@ pub fn fit_diagnostics(
         h,
         model,
         &columns[..size],
+        &mut sequence,
+        &mut counts,
+        &mut ps,
     )
 }

@@ -242,7 +242,7 @@ pub fn eigenvalues(a: &[f64], n: usize, tolerance: f64, rotations: u64, w: &mut 
     let mut order = places();
     let mut none = [0.0; 1];
     let mut m = matrix_room();
-    elimination::put_row(&mut m[..parts], a);
+    matrix::put_row(&mut m[..parts], a);
     eigenvalues_in(
         &mut m[..parts],
         n,

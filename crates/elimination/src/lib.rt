@@ -1,9 +1,10 @@
 // The row operations of Gauss-Jordan elimination. A row is lent as a part of the work slice; a row that another one needs is copied to a local array.
 // They are written once, for every width. The widths of one and two qubits, 8 and 32, are passed on as constants, so that the compiler unrolls their loops.
+use matrix::put_row;
 ghost use mathlib.Core.Path.{_≡_};
 ghost use mathlib.Core.List.{_++_};
 ghost use Prim.Native.Nat.{_+_, _*_, _≤_, _<_};
-ghost use lib.ListN.{length, take, drop};
+ghost use lib.ListN.{length, drop};
 ghost use Rattle.lists.specs.Fold.{fold};
 ghost use Rattle.lists.specs.Part.{part};
 ghost use Rattle.elimination.specs.Rows.{rowOf, onRow, dividedRow, lessRow, eliminatedRow, clearedBy};
@@ -15,17 +16,6 @@ pub fn copy_row(from: &[f64], start: usize, w: usize, out: &mut [f64])
 {
     for j in 0..w {
         out[j] = from[start + j];
-    }
-}
-
-// Writes the row over with the front of `from`.
-pub fn put_row(row: &mut [f64], from: &[f64])
-    requires { ⌜ length (now row) ≤ length (now from) ⌝ }
-    ensures { λ _. ⌜ now (row .exit) ≡ take (length (now (row .entry))) (now (from .entry)) ⌝ }
-{
-    let w = row.len();
-    for j in 0..w {
-        row[j] = from[j];
     }
 }
 

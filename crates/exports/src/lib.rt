@@ -13,9 +13,8 @@ ghost use Rattle.root.specs.Root.{sqrt};
 ghost use Rattle.logarithm.specs.Steps.{ln, lnBy, entriesOf};
 ghost use Rattle.refusal.specs.Values.{codeOf};
 ghost use Rattle.outcome.specs.Outcome.{bitOf};
-ghost use Rattle.library.specs.Entries.{probesEntry, settingEntry, applyEntry, choiEntry};
-ghost use Rattle.tomography.specs.Sheet.{sheetOf};
-ghost use Rattle.exports.specs.Exported.{headerWords, refusalWords, answerWords, answerCode, readingWords, readingCode, Exported, ReadExported, Mapped};
+ghost use Rattle.library.specs.Entries.{probesEntry, settingEntry, applyEntry, choiEntry, probabilitiesEntry};
+ghost use Rattle.exports.specs.Exported.{headerWords, refusalWords, answerWords, answerCode, readingWords, readingCode, Exported, SheetExported, ReadExported, Mapped};
 
 fn put(out: &mut [u64], a: u64, b: u64, c: u64, d: u64, e: u64)
     requires { ⌜ 5 ≤ length (now out) ⌝ }
@@ -54,6 +53,14 @@ fn put_tests(t: bool, u: bool, c: bool, out: &mut [u64]) -> u64
     put_header(4, bit_of(t), bit_of(u), bit_of(c), 0, out)
 }
 
+// `fit R S E V`.
+fn put_fit(stop: u64, steps: u64, evaluations: u64, converged: bool, out: &mut [u64]) -> u64
+    requires { ⌜ 5 ≤ length (now out) ⌝ }
+    ensures { λ n. ⌜ (n ≡ 0) × (now (out .exit) ≡ over (headerWords 5 stop steps evaluations (bitOf converged)) (now (out .entry))) ⌝ }
+{
+    put_header(5, stop, steps, evaluations, bit_of(converged), out)
+}
+
 fn put_answer(a: Answer, out: &mut [u64]) -> u64
     requires { ⌜ 5 ≤ length (now out) ⌝ }
     ensures { λ n. ⌜ (n ≡ answerCode a) × (now (out .exit) ≡ over (answerWords a) (now (out .entry))) ⌝ }
@@ -67,12 +74,20 @@ fn put_answer(a: Answer, out: &mut [u64]) -> u64
             unital,
             completely_positive,
         } => put_tests(trace_preserving, unital, completely_positive, out),
+        Answer::Fit {
+            stop,
+            steps,
+            evaluations,
+            converged,
+            words: _,
+        } => put_fit(stop, steps, evaluations, converged, out),
         Answer::Model { words } => put_header(6, words, 0, 0, 0, out),
         Answer::Diagnostics => put_header(7, 0, 0, 0, 0, out),
         Answer::Probes { count } => put_header(8, count, 0, 0, 0, out),
         Answer::Setting { qubits } => put_header(9, qubits, 0, 0, 0, out),
         Answer::Applied { size } => put_header(10, size, 0, 0, 0, out),
         Answer::Choi { dimension } => put_header(11, dimension, 0, 0, 0, out),
+        Answer::Probabilities { count } => put_header(12, count, 0, 0, 0, out),
         Answer::Refused(r) => put_refusal(r, out),
     }
 }
@@ -98,7 +113,7 @@ pub extern "C" fn mintshuttle_sheet(
     work: &mut [f64],
     answer: &mut [u64],
 ) -> u64
-    ensures { λ r. ⌜ Exported (sheetOf (now (card .entry))) (now (result .entry)) (now (result .exit)) (now (work .entry)) (now (work .exit)) (now (answer .entry)) (now (answer .exit)) r ⌝ }
+    ensures { λ r. ⌜ SheetExported (now (card .entry)) (now (result .entry)) (now (result .exit)) (now (work .entry)) (now (work .exit)) (now (answer .entry)) (now (answer .exit)) r ⌝ }
 {
     if answer.len() < 5 {
         numbers::clear(work);
@@ -181,6 +196,28 @@ pub extern "C" fn mintshuttle_choi(
         return 16;
     }
     let a = library::normalized_choi(n, values, result, work);
+    put_answer(a, answer)
+}
+
+// The probabilities of a gate sequence.
+#[no_mangle]
+pub extern "C" fn mintshuttle_probabilities<'a>(
+    d: u64,
+    effects: u64,
+    names: &'a [u64],
+    numbers: &'a [f64],
+    sequence: &'a [u64],
+    result: &mut [u64],
+    work: &mut [f64],
+    answer: &mut [u64],
+) -> u64
+    ensures { λ r. ⌜ Exported (probabilitiesEntry d effects (now (names .entry)) (now (numbers .entry)) (now (sequence .entry))) (now (result .entry)) (now (result .exit)) (now (work .entry)) (now (work .exit)) (now (answer .entry)) (now (answer .exit)) r ⌝ }
+{
+    if answer.len() < 5 {
+        numbers::clear(work);
+        return 16;
+    }
+    let a = library::probabilities(d, effects, names, numbers, sequence, result, work);
     put_answer(a, answer)
 }
 

@@ -5,7 +5,7 @@ use lib.Ieee.{Float}
 use Rattle.card_layout.specs.declared.Header.{Header}
 use Rattle.likelihood.specs.declared.Diagnostics.{Diagnostics}
 use Rattle.descent.specs.declared.GstTermination.{GstTermination}
-use Rattle.descent.specs.Fit.{Job, Point, Outcome, fitted, turned, size, modelOf, diagnosticsIn}
+use Rattle.descent.specs.Fit.{Job, Point, Fitted, Outcome, fitted, turned, size, modelOf, diagnosticsIn}
 use Rattle.parameters.specs.Parameters.{configOf, placesOf}
 use Rattle.evaluation.specs.Job.{jobBy}
 use Rattle.fit.specs.declared.Shown.{Shown}
@@ -24,17 +24,12 @@ shownBy d r z p n f =
 abbrev pub shownOf : Job → Diagnostics → GstTermination → Float → Point → Shown
 shownOf J d r z p = shownBy d r z p (2 * size J) (diagnosticsIn (J .likelihood (modelOf J (p .coordinates))))
 
+-- what is shown, with the model's numbers
+abbrev pub fittedOf : Shown → List Float → Fitted
+fittedOf f m =
+    record { stop = f .stop; steps = f .steps; evaluations = f .evaluations; initial = f .initial; final = f .«final_fit»; objective = f .objective; norm = f .norm; model = m }
+
 -- an answer with the model's numbers that it left
 abbrev pub outcomeOf : Fitting → List Float → Outcome
-outcomeOf (fitting.Fitted f) m =
-    fitted (record {
-      stop = f .stop;
-      steps = f .steps;
-      evaluations = f .evaluations;
-      initial = f .initial;
-      final = f .«final_fit»;
-      objective = f .objective;
-      norm = f .norm;
-      model = m;
-    })
+outcomeOf (fitting.Fitted f) m = fitted (fittedOf f m)
 outcomeOf (fitting.Refused r) m = turned r

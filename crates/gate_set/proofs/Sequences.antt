@@ -1,10 +1,7 @@
 -- Sequences of gates, tested one by one. Assumes nothing.
-use Prim.Native.Nat.{ℕ, zero, suc, _+_, _≤_, _<_}
-use mathlib.Core.Path.{_≡_, refl, sym, subst}
-use mathlib.Core.Bool.{Bool, true, false, cond}
+use Prim.Native.Nat.{ℕ, _+_, _≤_, _<_}
+use mathlib.Core.Path.{_≡_, refl, sym}
 use mathlib.Core.List.{List}
-use mathlib.Core.Logic.{⊎-elim}
-use native.Mathlib.Nat.{not-suc-le-zero, eq-or-lt-of-le, le-of-suc-le-suc}
 use native.Mathlib.Omega.{arith}
 use borrow.Author.Tests.{lt-ltb, le-ltb, ltb-true}
 use lib.Dec.{ltb}
@@ -16,15 +13,8 @@ use Rattle.refusal.specs.declared.Refusal.the-variants.{UnknownGate}
 use Rattle.refusal.specs.declared.Verdict.{Verdict}
 use Rattle.refusal.specs.declared.Verdict.the-variants.{Good, Refused}
 use Rattle.refusal.specs.Verdicts.{firstOf}
-use Rattle.refusal.proofs.Verdicts.{never-good, both-good}
+use Rattle.refusal.proofs.Verdicts.{held, each-good}
 use Rattle.gate_set.specs.GateSet.{presentGate, presentOf}
-
-below : (gates g : ℕ) → Good ≡ presentGate gates g → g < gates
-below gates g e = go (ltb g gates) refl e
-  where
-    go : (b : Bool) → ltb g gates ≡ b → Good ≡ cond b Good (Refused (UnknownGate g)) → g < gates
-    go true q e = ltb-true g gates q
-    go false q e = absurd (never-good e)
 
 module _ (gates : ℕ) (sequence : List ℕ) where
   -- one more test
@@ -44,15 +34,7 @@ module _ (gates : ℕ) (sequence : List ℕ) where
   unfolding presentOf
   all-present k h e = fold-end tested k (length sequence) Good Good h e
 
-  present-before : (n : ℕ) → Good ≡ fold n tested Good → (k : ℕ) → k < n → getD sequence k 0 < gates
-  unfolding fold
-  present-before zero e k l = absurd (not-suc-le-zero l)
-  present-before (suc n) e k l =
-      let b = both-good (fold n tested Good) (presentGate gates (getD sequence n 0)) e in
-      ⊎-elim (λ (q : k ≡ n). subst (λ (i : ℕ). getD sequence i 0 < gates) (sym q) (below gates (getD sequence n 0) (b .1))) (λ (q : k < n). present-before n (b .0) k q)
-      (eq-or-lt-of-le (le-of-suc-le-suc l))
-
   -- a sequence that is not refused has gates that are there
   pub present-below : presentOf gates sequence ≡ Good → (k : ℕ) → k < length sequence → getD sequence k 0 < gates
   unfolding presentOf
-  present-below e = present-before (length sequence) (sym e)
+  present-below e k l = ltb-true _ _ (held (ltb (getD sequence k 0) gates) _ (sym (each-good (length sequence) (λ k. presentGate gates (getD sequence k 0)) e k l)))

@@ -89,23 +89,23 @@ fn transform_effects(card: &[u8], h: Header, inverse: &[f64], out: &mut [f64])
     }
 }
 
+// The gate is loaded where the result goes; `left` is room for the first product.
 fn transform_gate<'a>(
     card: &[u8],
     h: Header,
     g: usize,
     transform: &'a [f64],
     inverse: &'a [f64],
+    left: &mut [f64],
     out: &mut [f64],
 )
-    requires { ⌜ Shaped (now card) h × (g < h .gates) × (h .dimension * h .dimension ≤ length (now transform)) × (h .dimension * h .dimension ≤ length (now inverse)) × (h .dimension * h .dimension ≤ length (now out)) ⌝ }
+    requires { ⌜ Shaped (now card) h × (g < h .gates) × (h .dimension * h .dimension ≤ length (now transform)) × (h .dimension * h .dimension ≤ length (now inverse)) × (h .dimension * h .dimension ≤ length (now left)) × (h .dimension * h .dimension ≤ length (now out)) ⌝ }
     ensures { λ _. ⌜ now (out .exit) ≡ over (gateIn (now (transform .entry)) (now (inverse .entry)) (now (card .entry)) h g) (now (out .entry)) ⌝ }
 {
     let d = h.dimension;
     let m = square(d);
-    let mut gate = matrix_room();
-    let mut left = matrix_room();
-    load_gate(card, h, g, &mut gate);
-    matrix::mat_mul(transform, &gate[..m], d, &mut left);
+    load_gate(card, h, g, out);
+    matrix::mat_mul(transform, &out[..m], d, left);
     matrix::mat_mul(&left[..m], inverse, d, out);
 }
 
@@ -121,9 +121,10 @@ fn transform_gates<'a>(
 {
     let count = h.gates;
     let m = square(h.dimension);
+    let mut left = matrix_room();
     for g in 0..count {
         let start = g * m;
-        transform_gate(card, h, g, transform, inverse, &mut out[start..]);
+        transform_gate(card, h, g, transform, inverse, &mut left, &mut out[start..]);
     }
 }
 

@@ -102,7 +102,7 @@ sound-likelihood (Fit d) p = shown-sound verdict.Good answer.Diagnostics _ lower
 sound-likelihood Failed p = other InvalidProbabilities (eqb-false 8 16 refl)
 sound-likelihood (Refused r) p = other r (p .low)
 
-sound-after : (v : Verdict) {o : Outcome} → Lower v → Sound o → Sound (after v refused o)
+pub sound-after : (v : Verdict) {o : Outcome} → Lower v → Sound o → Sound (after v refused o)
 sound-after verdict.Good p q = q
 sound-after (verdict.Refused r) p q = other r (p .low r refl)
 

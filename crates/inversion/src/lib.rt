@@ -26,7 +26,7 @@ fn beside_row(a: &[f64], n: usize, i: usize, row: &mut [f64])
 {
     let start = i * n;
     let end = start + n;
-    elimination::put_row(&mut row[..n], &a[start..end]);
+    matrix::put_row(&mut row[..n], &a[start..end]);
     unit_row(&mut row[n..], i);
 }
 
@@ -84,7 +84,7 @@ fn right_halves(work: &[f64], n: usize, out: &mut [f64])
         let until = from + n;
         let start = i * n;
         let end = start + n;
-        elimination::put_row(&mut out[start..end], &work[from..until]);
+        matrix::put_row(&mut out[start..end], &work[from..until]);
     }
 }
 

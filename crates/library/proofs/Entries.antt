@@ -17,7 +17,7 @@ use Rattle.refusal.specs.declared.Refusal.the-variants.{InvalidQubits, InvalidC
 use Rattle.refusal.specs.declared.Verdict.{Verdict}
 use Rattle.refusal.specs.declared.Verdict.the-variants.{Good, Refused}
 use Rattle.refusal.specs.Verdicts.{firstOf, after}
-use Rattle.refusal.proofs.Verdicts.{never-good, both-good}
+use Rattle.refusal.proofs.Verdicts.{passed, both-good}
 use Rattle.matrix.specs.Product.{matVecOf}
 use Rattle.transfer.specs.Apply.{appliedOf, appliedNumbers}
 use Rattle.transfer.proofs.Applied.{good-numbers}
@@ -28,11 +28,6 @@ use Rattle.outcome.specs.declared.Answer.the-variants as told
 use Rattle.outcome.specs.Outcome.{shown, Gives, roomy, inRoom}
 use Rattle.outcome.proofs.Outcomes.{stays, same-outcome, not-shown, is-shown, housed}
 use Rattle.library.specs.Entries.{qubitsOf, settingVerdict, applyVerdict, applyNumbers, choiVerdict, choiLeft}
-
--- a test that refuses did not, where the verdict is good
-good-cond : (b : Bool) (r : Refusal) → Good ≡ cond b (Refused r) Good → b ≡ false
-good-cond true r e = absurd (never-good e)
-good-cond false r e = refl
 
 -- ---- the number of qubits
 
@@ -51,11 +46,11 @@ module _ (most n : ℕ) where
 
   pub some : Good ≡ qubitsOf most n → 1 ≤ n
   unfolding qubitsOf
-  some e = pos-of-ne-zero (eqb-false n 0 (neither (eqb n 0) (ltb most n) (good-cond _ _ e) .0))
+  some e = pos-of-ne-zero (eqb-false n 0 (neither (eqb n 0) (ltb most n) (passed _ _ _ e .0) .0))
 
   pub few : Good ≡ qubitsOf most n → n ≤ most
   unfolding qubitsOf
-  few e = ltb-false most n (neither (eqb n 0) (ltb most n) (good-cond _ _ e) .1)
+  few e = ltb-false most n (neither (eqb n 0) (ltb most n) (passed _ _ _ e .0) .1)
 
 -- ---- an entry with room: v is its verdict, as the call w gave it
 
@@ -88,7 +83,7 @@ module _ (n index : ℕ) where
   unfolding settingVerdict
   setting-in e =
       let b = both-good (qubitsOf 3 n) (cond (leb (3 ^ n) index) (Refused (InvalidCard index)) Good) e in
-      (few 3 n (b .0), leb-false (3 ^ n) index (good-cond _ _ (b .1)))
+      (few 3 n (b .0), leb-false (3 ^ n) index (passed _ _ _ (b .1) .0))
 
 -- ---- transfer matrices
 

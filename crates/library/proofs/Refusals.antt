@@ -14,9 +14,12 @@ use Rattle.transfer.specs.Apply.{appliedOf}
 use Rattle.choi.specs.Choi.{choiOf, choiTested, normalizedChoi}
 use Rattle.designs.specs.Probes.{probesOf}
 use Rattle.designs.specs.Settings.{settingOf}
-use Rattle.outcome.specs.declared.Answer.the-variants.{Probes, Setting, Applied, Choi}
+use Rattle.gate_set.specs.GateSet.{probabilitiesOf}
+use Rattle.sequences.specs.Sequences.{sequenceVerdict}
+use Rattle.sequences.proofs.Refusals.{lower-sequence}
+use Rattle.outcome.specs.declared.Answer.the-variants.{Probes, Setting, Applied, Choi, Probabilities}
 use Rattle.outcome.proofs.Refusals.{Sound, Lower, lower-good, lower-refused, lower-either, lower-first, lower-finite, lower-numbers, shown-sound}
-use Rattle.library.specs.Entries.{qubitsOf, settingVerdict, applyVerdict, probesEntry, settingEntry, applyEntry, choiVerdict, choiEntry}
+use Rattle.library.specs.Entries.{qubitsOf, settingVerdict, applyVerdict, probesEntry, settingEntry, applyEntry, choiVerdict, choiEntry, probabilitiesEntry}
 
 lower-qubits : (most n : ℕ) → Lower (qubitsOf most n)
 unfolding qubitsOf
@@ -49,3 +52,7 @@ lower-choi n values = lower-first (lower-qubits 2 n) (lower-first (lower-numbers
 pub choi-sound : (n : ℕ) (values : List Float) → Sound (choiEntry n values)
 unfolding choiEntry
 choi-sound n values = shown-sound (choiVerdict n values) (Choi (4 ^ n)) (wordsOf (2 * (4 ^ n * 4 ^ n)) (choiOf n values)) (lower-choi n values) refl
+
+pub probabilities-sound : (d effects : ℕ) (names : List ℕ) (numbers : List Float) (sequence : List ℕ) → Sound (probabilitiesEntry d effects names numbers sequence)
+unfolding probabilitiesEntry
+probabilities-sound d effects names numbers sequence = shown-sound (sequenceVerdict d effects names numbers sequence) (Probabilities effects) (wordsOf effects (probabilitiesOf d effects numbers sequence)) (lower-sequence d effects names numbers sequence) refl

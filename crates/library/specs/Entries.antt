@@ -14,7 +14,9 @@ use Rattle.transfer.specs.Apply.{appliedOf, appliedNumbers}
 use Rattle.choi.specs.Choi.{choiOf, normalizedChoi, choiNumbers}
 use Rattle.designs.specs.Probes.{probesOf}
 use Rattle.designs.specs.Settings.{settingOf}
-use Rattle.outcome.specs.declared.Answer.the-variants.{Probes, Setting, Applied, Choi}
+use Rattle.gate_set.specs.GateSet.{probabilitiesOf}
+use Rattle.sequences.specs.Sequences.{sequenceVerdict}
+use Rattle.outcome.specs.declared.Answer.the-variants.{Probes, Setting, Applied, Choi, Probabilities}
 use Rattle.outcome.specs.Outcome.{Outcome, shown}
 
 -- refusal 1: no qubit, or more than `most`
@@ -51,3 +53,8 @@ choiLeft n values = after (qubitsOf 2 n) (λ _. []) (choiNumbers n values)
 
 unfoldable pub choiEntry : ℕ → List Float → Outcome
 choiEntry n values = shown (choiVerdict n values) (Choi (4 ^ n)) (wordsOf (2 * (4 ^ n * 4 ^ n)) (choiOf n values))
+
+-- `probabilities`: the model of a name for each gate and of numbers is made first, then the sequence is tested; the probability of each effect
+unfoldable pub probabilitiesEntry : ℕ → ℕ → List ℕ → List Float → List ℕ → Outcome
+probabilitiesEntry d effects names numbers sequence =
+    shown (sequenceVerdict d effects names numbers sequence) (Probabilities effects) (wordsOf effects (probabilitiesOf d effects numbers sequence))

@@ -11,7 +11,7 @@ ghost use Prim.Native.Nat.{_^_, _≤_, _<_};
 ghost use lib.ListN.{length};
 ghost use Rattle.lists.specs.Build.{over};
 ghost use Rattle.outcome.specs.Outcome.{inRoom, Gives, Call};
-ghost use Rattle.library.specs.Entries.{qubitsOf, settingVerdict, applyVerdict, applyNumbers, probesEntry, settingEntry, applyEntry, choiVerdict, choiLeft, choiEntry};
+ghost use Rattle.library.specs.Entries.{qubitsOf, settingVerdict, applyVerdict, applyNumbers, probesEntry, settingEntry, applyEntry, choiVerdict, choiLeft, choiEntry, probabilitiesEntry};
 
 // n is 1 to `most`.
 fn check_qubits(most: u64, n: u64) -> Verdict
@@ -181,6 +181,66 @@ pub fn normalized_choi(n: u64, values: &[f64], result: &mut [u64], work: &mut [f
     ensures { λ r. ⌜ Call (choiEntry n (now (values .entry))) (now (result .entry)) (now (result .exit)) (now (work .entry)) (now (work .exit)) r ⌝ }
 {
     let answer = choi_matrix(n, values, result, work);
+    numbers::clear(work);
+    answer
+}
+
+// Room for the probabilities.
+fn probabilities_room() -> [f64; 16]
+    ensures { λ r. ⌜ 16 ≡ length r ⌝ }
+{
+    [0.0; 16]
+}
+
+fn sequence_outcome<'a>(
+    d: u64,
+    effects: u64,
+    names: &'a [u64],
+    numbers: &'a [f64],
+    sequence: &'a [u64],
+    result: &mut [u64],
+    work: &mut [f64],
+) -> Answer
+    ensures { λ r. ⌜ Gives (inRoom (now (result .entry)) (now (work .entry)) (probabilitiesEntry d effects (now (names .entry)) (now (numbers .entry)) (now (sequence .entry)))) (now (result .entry)) (now (result .exit)) r ⌝ }
+{
+    if !has_room(result, work) {
+        return Answer::Refused(Refusal::ShortBuffer);
+    }
+    let e = effects as usize;
+    let found = sequences::check(d as usize, e, names, numbers, sequence);
+    match found {
+        Verdict::Refused(r) => Answer::Refused(r),
+        Verdict::Good => {
+            let mut out = probabilities_room();
+            sequences::probabilities(
+                d as usize,
+                e,
+                names.len(),
+                numbers,
+                sequence,
+                work,
+                &mut out,
+            );
+            numbers::emit(&out, e, result);
+            Answer::Probabilities { count: effects }
+        }
+    }
+}
+
+// The outcome probabilities of a gate sequence, the first gate applied first. The model has a name for each gate; its numbers are d of the state, d of each
+// effect, and d by d of each gate, by rows. What comes of it is not tested.
+pub fn probabilities<'a>(
+    d: u64,
+    effects: u64,
+    names: &'a [u64],
+    numbers: &'a [f64],
+    sequence: &'a [u64],
+    result: &mut [u64],
+    work: &mut [f64],
+) -> Answer
+    ensures { λ r. ⌜ Call (probabilitiesEntry d effects (now (names .entry)) (now (numbers .entry)) (now (sequence .entry))) (now (result .entry)) (now (result .exit)) (now (work .entry)) (now (work .exit)) r ⌝ }
+{
+    let answer = sequence_outcome(d, effects, names, numbers, sequence, result, work);
     numbers::clear(work);
     answer
 }

@@ -1,13 +1,13 @@
 -- Lists joined one after the other, and the loops that write them so. Assumes nothing.
-use mathlib.Core.Path.{_≡_, refl, _∙_}
+use mathlib.Core.Path.{_≡_, refl, sym, ap, _∙_}
 use mathlib.Core.List.{List, [], _++_, append-assoc, append-nil}
 use mathlib.Core.Logic.{⊎-elim}
 use Prim.Native.Nat.{ℕ, zero, suc, _+_, _-_, _*_, _<_}
 use native.Mathlib.Nat.{suc-mul, zero-mul, not-suc-le-zero, eq-or-lt-of-le, le-of-suc-le-suc}
 use native.Mathlib.Numerals.{add-one}
 use native.Mathlib.Omega.{arith}
-use lib.ListN.{length, take, drop, length-append, length-drop, drop-of-length-le}
-use lib.Seq.{take-all, take-at, drop-at, drop-drop}
+use lib.ListN.{length, getD, take, drop, length-append, length-drop, drop-of-length-le}
+use lib.Seq.{take-all, take-at, drop-at, drop-drop, getD-append-add, getD-take, getD-drop}
 use Rattle.lists.specs.Build.{over, joined}
 use Rattle.lists.specs.Part.{part}
 
@@ -42,6 +42,18 @@ module _ {A : Type 0} where
     where
       last : i ≡ n → part (i * w) w (joined n f ++ (f n ++ r)) ≡ f i
       last q = rw (q, drop-at (joined n f) (f n ++ r) (n * w) (length-joined n w f (λ j _. h j)), take-at (f n) r w (h n))
+
+  -- entry j of list i
+  pub joined-entry : (z : A) (n w i j : ℕ) (f : ℕ → List A) → ((k : ℕ) → length (f k) ≡ w) → i < n → j < w → getD (joined n f) (i * w + j) z ≡ getD (f i) j z
+  joined-entry z n w i j f h l k =
+      sym (getD-drop (i * w) (joined n f) j z)
+      ∙ sym (getD-take w (drop (i * w) (joined n f)) j z k)
+      ∙ ap (λ (x : List A). getD (part (i * w) w x) j z) (sym (append-nil (joined n f)))
+      ∙ ap (λ (x : List A). getD x j z) (part-joined n w i f [] h l)
+
+  -- entry i of what follows a list of n
+  pub behind : (z : A) (x y : List A) (n i : ℕ) → length x ≡ n → getD (x ++ y) (n + i) z ≡ getD y i z
+  behind z x y n i e = ap (λ (k : ℕ). getD (x ++ y) (k + i) z) (sym e) ∙ getD-append-add x y i z
 
   -- a loop that writes them: what stands in l after i turns
   abbrev pub Written : (ℕ → List A) → List A → ℕ → List A → Type 0

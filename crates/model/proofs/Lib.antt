@@ -1,2 +1,5 @@
+pub mod Fours
+pub mod Shown
 pub mod Tests
+pub mod Finite
 pub mod Refusals

@@ -11,10 +11,8 @@ use Rattle.lists.proofs.Folding.{fold-none, fold-more, fold-end}
 use Rattle.lists.proofs.Filling.{getD-build}
 use Rattle.numbers.specs.Slice.{at, numberAt, numbersAt, allFinite}
 use Rattle.refusal.specs.declared.Refusal.the-variants.{Shape, NonFinite, InvalidGstOptimization}
-use Rattle.card_layout.specs.declared.Header.{Header}
-use Rattle.card_parts.specs.Model.{stateOf}
 use Rattle.refusal.specs.declared.Verdict.the-variants.{Good, Refused}
-use Rattle.model.specs.Checked.{anyOf, badName, badGate, checkedOf}
+use Rattle.model.specs.Checked.{anyOf, Parts, badName, badGate, testedOf}
 
 module _ (b : Bool) (p : ℕ → Bool) where
   pub any-none : (c : Bool) → c ≡ b → c ≡ anyOf b 0 p
@@ -33,33 +31,27 @@ pub number-at : (s : List ℕ) (from n i : ℕ) → i < n → at (numbersAt s fr
 unfolding numbersAt
 number-at s from n i h = getD-build nan n i (λ k. numberAt s (from + k)) h
 
--- ---- the tests of `check_model`, in their order
+-- ---- the tests of a model, in their order
 
-module _ (s : List ℕ) (h : Header) where
-  pub no-dimension : h .dimension ≡ 0 → Refused NonFinite ≡ checkedOf s h
-  unfolding checkedOf
-  no-dimension e = yes _ (eq-eqb (h .dimension) 0 e)
+module _ (m : Parts) where
+  pub no-dimension : m .dimension ≡ 0 → Refused NonFinite ≡ testedOf m
+  no-dimension e = yes _ (eq-eqb (m .dimension) 0 e)
 
-  module _ (d : h .dimension ≡ 0 → ⊥) where
-    pub bad-state : allFinite (stateOf s h) ≡ false → Refused NonFinite ≡ checkedOf s h
-    unfolding checkedOf
-    bad-state f = no _ (ne-eqb (h .dimension) 0 d) (yes _ (ap not f))
+  module _ (d : m .dimension ≡ 0 → ⊥) where
+    pub bad-state : allFinite (m .state) ≡ false → Refused NonFinite ≡ testedOf m
+    bad-state f = no _ (ne-eqb (m .dimension) 0 d) (yes _ (ap not f))
 
-    module _ (f : allFinite (stateOf s h) ≡ true) where
-      pub no-effects : h .effects ≡ 0 → Refused (Shape (h .dimension) 0) ≡ checkedOf s h
-      unfolding checkedOf
-      no-effects e = no _ (ne-eqb (h .dimension) 0 d) (no _ (ap not f) (yes _ (eq-eqb (h .effects) 0 e)))
+    module _ (f : allFinite (m .state) ≡ true) where
+      pub no-effects : m .effects ≡ 0 → Refused (Shape (m .dimension) 0) ≡ testedOf m
+      no-effects e = no _ (ne-eqb (m .dimension) 0 d) (no _ (ap not f) (yes _ (eq-eqb (m .effects) 0 e)))
 
-      module _ (e : h .effects ≡ 0 → ⊥) where
-        pub bad-number : badGate s h ≡ true → Refused NonFinite ≡ checkedOf s h
-        unfolding checkedOf
-        bad-number b = no _ (ne-eqb (h .dimension) 0 d) (no _ (ap not f) (no _ (ne-eqb (h .effects) 0 e) (yes _ b)))
+      module _ (e : m .effects ≡ 0 → ⊥) where
+        pub bad-number : badGate m ≡ true → Refused NonFinite ≡ testedOf m
+        bad-number b = no _ (ne-eqb (m .dimension) 0 d) (no _ (ap not f) (no _ (ne-eqb (m .effects) 0 e) (yes _ b)))
 
-        module _ (b : badGate s h ≡ false) where
-          pub bad-names : anyOf false (h .gates) (badName s h) ≡ true → Refused (InvalidGstOptimization 6) ≡ checkedOf s h
-          unfolding checkedOf
-          bad-names n = no _ (ne-eqb (h .dimension) 0 d) (no _ (ap not f) (no _ (ne-eqb (h .effects) 0 e) (no _ b (yes _ n))))
+        module _ (b : badGate m ≡ false) where
+          pub bad-names : anyOf false (m .gates) (badName (m .name)) ≡ true → Refused (InvalidGstOptimization 6) ≡ testedOf m
+          bad-names n = no _ (ne-eqb (m .dimension) 0 d) (no _ (ap not f) (no _ (ne-eqb (m .effects) 0 e) (no _ b (yes _ n))))
 
-          pub all-good : anyOf false (h .gates) (badName s h) ≡ false → Good ≡ checkedOf s h
-          unfolding checkedOf
-          all-good n = no _ (ne-eqb (h .dimension) 0 d) (no _ (ap not f) (no _ (ne-eqb (h .effects) 0 e) (no _ b (no _ n refl))))
+          pub all-good : anyOf false (m .gates) (badName (m .name)) ≡ false → Good ≡ testedOf m
+          all-good n = no _ (ne-eqb (m .dimension) 0 d) (no _ (ap not f) (no _ (ne-eqb (m .effects) 0 e) (no _ b (no _ n refl))))

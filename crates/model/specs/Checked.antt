@@ -3,6 +3,7 @@ use Prim.Native.Nat.{ℕ}
 use mathlib.Core.Bool.{Bool, false, cond, not, _||_}
 use mathlib.Core.List.{List}
 use lib.Dec.{eqb}
+use lib.Ieee.{Float}
 use Rattle.lists.specs.Fold.{fold}
 use Rattle.numbers.specs.Slice.{allFinite}
 use Rattle.refusal.specs.declared.Refusal.the-variants.{Shape, NonFinite, InvalidGstOptimization}
@@ -15,23 +16,40 @@ use Rattle.refusal.specs.declared.Verdict.the-variants.{Good, Refused}
 unfoldable pub anyOf : Bool → ℕ → (ℕ → Bool) → Bool
 anyOf b n p = fold n (λ i c. c || p i) b
 
+-- a model's parts, wherever they lie
+pub record Parts : Type 0 where
+  pub dimension : ℕ
+  pub effects : ℕ
+  pub gates : ℕ
+  pub state : List Float
+  pub effect : ℕ → List Float
+  pub gate : ℕ → List Float
+  pub name : ℕ → ℕ
+
 -- gate g's name is zero, or that of an earlier gate
-abbrev pub badName : List ℕ → Header → ℕ → Bool
-badName s h g = anyOf (eqb (nameOf s h g) 0) g (λ j. eqb (nameOf s h j) (nameOf s h g))
+abbrev pub badName : (ℕ → ℕ) → ℕ → Bool
+badName name g = anyOf (eqb (name g) 0) g (λ j. eqb (name j) (name g))
 
 -- a number of an effect, or then of a gate, is not finite
-abbrev pub badEffect : List ℕ → Header → Bool
-badEffect s h = anyOf false (h .effects) (λ k. not (allFinite (effectOf s h k)))
+abbrev pub badEffect : Parts → Bool
+badEffect m = anyOf false (m .effects) (λ k. not (allFinite (m .effect k)))
 
-abbrev pub badGate : List ℕ → Header → Bool
-badGate s h = anyOf (badEffect s h) (h .gates) (λ g. not (allFinite (gateOf s h g)))
+abbrev pub badGate : Parts → Bool
+badGate m = anyOf (badEffect m) (m .gates) (λ g. not (allFinite (m .gate g)))
 
 -- no state or one that is not finite; no effects; other numbers that are not finite; names
-unfoldable pub checkedOf : List ℕ → Header → Verdict
-checkedOf s h =
-    cond (eqb (h .dimension) 0) (Refused NonFinite)
-    (cond (not (allFinite (stateOf s h))) (Refused NonFinite)
-    (cond (eqb (h .effects) 0) (Refused (Shape (h .dimension) 0))
-    (cond (badGate s h) (Refused NonFinite)
-    (cond (anyOf false (h .gates) (badName s h)) (Refused (InvalidGstOptimization 6))
+abbrev pub testedOf : Parts → Verdict
+testedOf m =
+    cond (eqb (m .dimension) 0) (Refused NonFinite)
+    (cond (not (allFinite (m .state))) (Refused NonFinite)
+    (cond (eqb (m .effects) 0) (Refused (Shape (m .dimension) 0))
+    (cond (badGate m) (Refused NonFinite)
+    (cond (anyOf false (m .gates) (badName (m .name))) (Refused (InvalidGstOptimization 6))
     Good))))
+
+-- the model of a card
+abbrev pub onCard : List ℕ → Header → Parts
+onCard s h = record { dimension = h .dimension; effects = h .effects; gates = h .gates; state = stateOf s h; effect = effectOf s h; gate = gateOf s h; name = nameOf s h }
+
+unfoldable pub checkedOf : List ℕ → Header → Verdict
+checkedOf s h = testedOf (onCard s h)

@@ -1,10 +1,13 @@
 // The model of a card of kinds 5 to 7, tested where it lies.
+use booleans::both;
 use booleans::either;
 use card_layout::Header;
 use card_parts::name_of;
 use card_places::effect_at;
 use card_places::gate_at;
 use card_places::model_at;
+use numbers::is_finite_word;
+use numbers::word_at;
 use refusal::Refusal;
 use refusal::Verdict;
 use sizes::square;
@@ -13,26 +16,98 @@ ghost use Prim.Native.Nat.{ℕ, _+_, _*_, _≤_, _<_};
 ghost use lib.ListN.{length};
 ghost use Rattle.numbers.specs.Slice.{numbersAt, allFinite};
 ghost use Rattle.card_places.specs.Shape.{Shaped};
-ghost use Rattle.model.specs.Checked.{badName, badEffect, badGate, anyOf, checkedOf};
-ghost use mathlib.Core.Bool.{false, not};
+ghost use Rattle.card_parts.specs.Model.{nameOf};
+ghost use Rattle.model.specs.Shown.{shown};
+ghost use Rattle.model.specs.Checked.{badName, badEffect, badGate, anyOf, onCard, checkedOf};
+ghost use mathlib.Core.Bool.{false, not, _&&_};
 
-// Whether the n numbers from word `from` on are finite.
-pub fn are_finite(card: &[u8], from: usize, n: usize) -> bool
-    requires { ⌜ (from + n) * 8 ≤ length (now card) ⌝ }
-    ensures { λ r. ⌜ r ≡ allFinite (numbersAt (now (card .entry)) from n) ⌝ }
+// Whether the first byte of a word shows that its number is finite: the exponent's seven bits in it are not all ones.
+fn is_shown(card: &[u8], place: usize) -> bool
+    requires { ⌜ place * 8 + 8 ≤ length (now card) ⌝ }
+    ensures { λ r. ⌜ r ≡ shown (now (card .entry)) place ⌝ }
 {
-    for i in 0..n {
-        let x = numbers::number_of(numbers::word_at(card, from + i));
-        if !numbers::is_finite(x) {
+    card[place * 8] % 128 < 127
+}
+
+fn are_shown(card: &[u8], from: usize) -> bool
+    requires { ⌜ (from + 4) * 8 ≤ length (now card) ⌝ }
+    ensures { λ r. ⌜ r ≡ ((shown (now (card .entry)) from && shown (now (card .entry)) (from + 1)) && (shown (now (card .entry)) (from + 2) && shown (now (card .entry)) (from + 3))) ⌝ }
+{
+    let first = both(is_shown(card, from), is_shown(card, from + 1));
+    let last = both(is_shown(card, from + 2), is_shown(card, from + 3));
+    both(first, last)
+}
+
+// Whether the four numbers from word `from` on are finite, each tested by its word.
+fn four_tested(card: &[u8], from: usize) -> bool
+    requires { ⌜ (from + 4) * 8 ≤ length (now card) ⌝ }
+    ensures { λ r. ⌜ r ≡ allFinite (numbersAt (now (card .entry)) from 4) ⌝ }
+{
+    if !is_finite_word(word_at(card, from)) {
+        return false;
+    }
+    if !is_finite_word(word_at(card, from + 1)) {
+        return false;
+    }
+    if !is_finite_word(word_at(card, from + 2)) {
+        return false;
+    }
+    is_finite_word(word_at(card, from + 3))
+}
+
+// The same. Of nearly every number the first byte shows it.
+fn four_finite(card: &[u8], from: usize) -> bool
+    requires { ⌜ (from + 4) * 8 ≤ length (now card) ⌝ }
+    ensures { λ r. ⌜ r ≡ allFinite (numbersAt (now (card .entry)) from 4) ⌝ }
+{
+    if are_shown(card, from) {
+        return true;
+    }
+    four_tested(card, from)
+}
+
+// Whether four times `count` numbers are finite.
+fn fours_finite(card: &[u8], from: usize, count: usize) -> bool
+    requires { ⌜ (from + count * 4) * 8 ≤ length (now card) ⌝ }
+    ensures { λ r. ⌜ r ≡ allFinite (numbersAt (now (card .entry)) from (count * 4)) ⌝ }
+{
+    for i in 0..count {
+        if !four_finite(card, from + i * 4) {
             return false;
         }
     }
     true
 }
 
+// Whether n numbers are finite, one by one.
+fn each_finite(card: &[u8], from: usize, n: usize) -> bool
+    requires { ⌜ (from + n) * 8 ≤ length (now card) ⌝ }
+    ensures { λ r. ⌜ r ≡ allFinite (numbersAt (now (card .entry)) from n) ⌝ }
+{
+    for i in 0..n {
+        if !is_finite_word(word_at(card, from + i)) {
+            return false;
+        }
+    }
+    true
+}
+
+// Whether the n numbers from word `from` on are finite. Four at a time take half the time.
+pub fn are_finite(card: &[u8], from: usize, n: usize) -> bool
+    requires { ⌜ (from + n) * 8 ≤ length (now card) ⌝ }
+    ensures { λ r. ⌜ r ≡ allFinite (numbersAt (now (card .entry)) from n) ⌝ }
+{
+    let fours = n / 4;
+    let done = fours * 4;
+    if !fours_finite(card, from, fours) {
+        return false;
+    }
+    each_finite(card, from + done, n - done)
+}
+
 fn bad_effect(card: &[u8], h: Header) -> bool
     requires { ⌜ Shaped (now card) h ⌝ }
-    ensures { λ r. ⌜ r ≡ badEffect (now (card .entry)) h ⌝ }
+    ensures { λ r. ⌜ r ≡ badEffect (onCard (now (card .entry)) h) ⌝ }
 {
     let count = h.effects;
     let d = h.dimension;
@@ -45,7 +120,7 @@ fn bad_effect(card: &[u8], h: Header) -> bool
 
 fn bad_gate(card: &[u8], h: Header) -> bool
     requires { ⌜ Shaped (now card) h ⌝ }
-    ensures { λ r. ⌜ r ≡ badGate (now (card .entry)) h ⌝ }
+    ensures { λ r. ⌜ r ≡ badGate (onCard (now (card .entry)) h) ⌝ }
 {
     let count = h.gates;
     let d = h.dimension;
@@ -59,7 +134,7 @@ fn bad_gate(card: &[u8], h: Header) -> bool
 
 fn bad_name(card: &[u8], h: Header, g: usize) -> bool
     requires { ⌜ Shaped (now card) h × (g < h .gates) ⌝ }
-    ensures { λ r. ⌜ r ≡ badName (now (card .entry)) h g ⌝ }
+    ensures { λ r. ⌜ r ≡ badName (nameOf (now (card .entry)) h) g ⌝ }
 {
     let name = name_of(card, h, g);
     let mut bad = name == 0;
@@ -71,7 +146,7 @@ fn bad_name(card: &[u8], h: Header, g: usize) -> bool
 
 fn bad_names(card: &[u8], h: Header) -> bool
     requires { ⌜ Shaped (now card) h ⌝ }
-    ensures { λ r. ⌜ r ≡ anyOf false (h .gates) (badName (now (card .entry)) h) ⌝ }
+    ensures { λ r. ⌜ r ≡ anyOf false (h .gates) (badName (nameOf (now (card .entry)) h)) ⌝ }
 {
     let count = h.gates;
     let mut bad = false;

@@ -12,10 +12,16 @@ use Rattle.lists.proofs.Joined.{length-joined, over-onto, rest-lent}
 use Rattle.lists.proofs.Parts.{over-front}
 use Rattle.numbers.specs.Slice.{numbersAt, wordsOf}
 use Rattle.numbers.proofs.Slices.{length-numbers, length-words}
+use Rattle.sizes.proofs.Small.{product-le}
 use Rattle.card_layout.specs.declared.Header.{Header}
+use Rattle.card_layout.specs.Limits.{Limited}
 use Rattle.card_places.specs.Places.{stateAt}
 use Rattle.card_parts.specs.Model.{gateOf}
 use Rattle.model_words.specs.Words.{vectorNumbers, modelNumbers, numbersOf, gateWords, gatesWords, modelWordsOf}
+
+-- a card's gates have at most 2,048 numbers
+pub gates-most : (h : Header) → Limited h → h .gates * (h .dimension * h .dimension) ≤ 2048
+gates-most h l = product-le (h .gates) (h .dimension * h .dimension) 8 256 (l .gates) (product-le (h .dimension) (h .dimension) 16 16 (l .dimension) (l .dimension))
 
 module _ (s : List ℕ) (h : Header) where
   pub length-gate : (g : ℕ) (numbers : List Float) → length (gateWords s h g numbers) ≡ 1 + h .dimension * h .dimension

@@ -27,6 +27,25 @@ pub finite-end : (xs : List Float) (i : ℕ) → length xs ≤ i → allFinite x
 unfolding allFinite
 finite-end xs i h e = sym (e ∙ ap allFinite (drop-of-length-le xs {i = i} h))
 
+-- ---- without a branch: `a` says whether those before number i are finite
+
+and-assoc : (a f r : Bool) → ((a && f) && r) ≡ (a && (f && r))
+and-assoc true f r = refl
+and-assoc false f r = refl
+
+and-true : (a : Bool) → (a && true) ≡ a
+and-true true = refl
+and-true false = refl
+
+pub finite-more : (xs : List Float) (i : ℕ) (a b f : Bool) → i < length xs → b ≡ (a && f) → f ≡ finite (at xs i) → (a && allFinite (drop i xs)) ≡ allFinite xs → (b && allFinite (drop (i + 1) xs)) ≡ allFinite xs
+unfolding allFinite
+finite-more xs i a b f h p q e =
+    rw (add-one, p, q) (and-assoc a (finite (at xs i)) (allFinite (drop (suc i) xs)) ∙ ap (λ (l : List Float). a && allFinite l) (sym (drop-cons xs i nan h)) ∙ e)
+
+pub finite-all : (xs : List Float) (i : ℕ) (a : Bool) → length xs ≤ i → (a && allFinite (drop i xs)) ≡ allFinite xs → a ≡ allFinite xs
+unfolding allFinite
+finite-all xs i a h e = sym (and-true a) ∙ ap (λ (l : List Float). a && allFinite l) (sym (drop-of-length-le xs {i = i} h)) ∙ e
+
 both-true : (a b : Bool) → (a && b) ≡ true → (a ≡ true) × (b ≡ true)
 both-true true b h = (refl, h)
 both-true false b h = clash h

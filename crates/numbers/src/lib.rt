@@ -136,6 +136,22 @@ pub fn comes_before(x: f64, y: f64) -> bool
     is_negative(x) && !is_negative(y)
 }
 
+fn both(a: bool, b: bool) -> bool
+    ensures { λ r. ⌜ r ≡ (a && b) ⌝ }
+{
+    if a {
+        return b;
+    }
+    false
+}
+
+// Whether the number that a word holds is finite.
+pub fn is_finite_word(w: u64) -> bool
+    ensures { λ r. ⌜ r ≡ finite (number w) ⌝ }
+{
+    w % 0x8000_0000_0000_0000 < 0x7ff0_0000_0000_0000
+}
+
 // Puts the n numbers from word `from` of the card at the front of the slice.
 pub fn load(card: &[u8], from: usize, n: usize, out: &mut [f64])
     requires { ⌜ ((from + n) * 8 ≤ length (now card)) × (n ≤ length (now out)) ⌝ }
@@ -166,15 +182,14 @@ pub fn clear(work: &mut [f64])
     }
 }
 
-// Whether all numbers of the slice are finite.
+// Whether all numbers of the slice are finite. The loop has no branch, so that the compiler tests several at once.
 pub fn all_finite(xs: &[f64]) -> bool
     ensures { λ r. ⌜ r ≡ allFinite (now (xs .entry)) ⌝ }
 {
     let n = xs.len();
+    let mut all = true;
     for i in 0..n {
-        if !is_finite(xs[i]) {
-            return false;
-        }
+        all = both(all, is_finite(xs[i]));
     }
-    true
+    all
 }

@@ -18,7 +18,7 @@ use Rattle.refusal.specs.Verdicts.{firstOf, finiteOr, checkedNumbers}
 use Rattle.refusal.proofs.Verdicts.{never-good}
 use Rattle.booleans.proofs.Joined.{clash}
 use Rattle.outcome.specs.declared.Answer.{Answer}
-use Rattle.outcome.specs.declared.Answer.the-variants.{Density, Projected, Process, Physical, Model, Diagnostics, Probes, Setting, Applied, Choi, Refused}
+use Rattle.outcome.specs.declared.Answer.the-variants.{Density, Projected, Process, Physical, Fit, Model, Diagnostics, Probes, Setting, Applied, Choi, Probabilities, Refused}
 use Rattle.outcome.specs.Outcome.{Outcome, refused, shown, Gives, roomy, inRoom, Call}
 
 -- an outcome that writes nothing where it is refused, and that is not refusal 16
@@ -32,12 +32,14 @@ isRefused (Density d) = false
 isRefused (Projected d) = false
 isRefused (Process p) = false
 isRefused (Physical t u c) = false
+isRefused (Fit r s e v w) = false
 isRefused (Model w) = false
 isRefused Diagnostics = false
 isRefused (Probes c) = false
 isRefused (Setting n) = false
 isRefused (Applied p) = false
 isRefused (Choi d) = false
+isRefused (Probabilities c) = false
 isRefused (Refused r) = true
 
 same-refusal : {r q : Refusal} → Refused r ≡ Refused q → codeOf r ≡ codeOf q

@@ -19,6 +19,14 @@ pub enum Answer {
         unital: bool,
         completely_positive: bool,
     },
+    // R, S, E and V of document 01; and how many words the model has, which the header does not show.
+    Fit {
+        stop: u64,
+        steps: u64,
+        evaluations: u64,
+        converged: bool,
+        words: u64,
+    },
     Model {
         words: u64,
     },
@@ -34,6 +42,9 @@ pub enum Answer {
     },
     Choi {
         dimension: u64,
+    },
+    Probabilities {
+        count: u64,
     },
     Refused(Refusal),
 }

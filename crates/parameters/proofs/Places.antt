@@ -1,47 +1,23 @@
 -- What a good verdict says of a request: its controls, that it has records and coordinates, and that the place of each coordinate is one of the
 -- model's numbers. Assumes nothing.
-use Prim.Native.Nat.{ℕ, zero, suc, _+_, _*_, _<_}
-use mathlib.Core.Path.{_≡_, refl, sym, subst}
+use Prim.Native.Nat.{ℕ, _+_, _*_, _<_}
+use mathlib.Core.Path.{_≡_, sym}
 use mathlib.Core.Bool.{Bool, true, false, cond, not, _&&_}
 use mathlib.Core.List.{List}
-use mathlib.Core.Logic.{⊎-elim}
-use native.Mathlib.Nat.{not-suc-le-zero, eq-or-lt-of-le, le-of-suc-le-suc}
 use native.Mathlib.Omega.{arith}
 use borrow.Author.Tests.{ltb-true, eqb-false, not-false}
 use lib.Dec.{eqb, ltb}
 use lib.ListN.{length, getD}
-use Rattle.lists.specs.Fold.{fold}
 use Rattle.lists.proofs.Filling.{length-build, getD-build}
 use Rattle.lists.proofs.Parts.{entry-fits}
 use Rattle.booleans.proofs.Joined.{and-both}
-use Rattle.refusal.specs.declared.Refusal.{Refusal}
-use Rattle.refusal.specs.declared.Verdict.{Verdict}
-use Rattle.refusal.specs.declared.Verdict.the-variants.{Good, Refused}
-use Rattle.refusal.specs.Verdicts.{firstOf}
-use Rattle.refusal.proofs.Verdicts.{never-good, both-good}
+use Rattle.refusal.specs.declared.Verdict.the-variants.{Good}
+use Rattle.refusal.proofs.Verdicts.{passed, held, each-good}
 use Rattle.card_layout.specs.declared.Header.{Header}
 use Rattle.card_layout.specs.declared.Coordinate.{Coordinate}
 use Rattle.card_parts.specs.Parts.{coordinateIn}
 use Rattle.model_words.specs.Words.{modelNumbers}
 use Rattle.parameters.specs.Parameters.{configOf, goodConfig, hasEntry, placeOf, placesOf, repeated, parameterVerdict, parametersVerdict, requestVerdict}
-
--- of tests in a row that find nothing, each finds nothing
-each-good : (n : ℕ) (f : ℕ → Verdict) → fold n (λ i v. firstOf v (f i)) Good ≡ Good → (i : ℕ) → i < n → f i ≡ Good
-unfolding fold
-each-good zero f e i l = absurd (not-suc-le-zero l)
-each-good (suc n) f e i l =
-    let b = both-good (fold n (λ i v. firstOf v (f i)) Good) (f n) (sym e) in
-    ⊎-elim (λ (q : i ≡ n). subst (λ (k : ℕ). f k ≡ Good) (sym q) (sym (b .1))) (λ (q : i < n). each-good n f (sym (b .0)) i q)
-    (eq-or-lt-of-le (le-of-suc-le-suc l))
-
--- a test was passed on the way to a good verdict: one that refuses where it holds, and one that refuses where it does not
-passed : (b : Bool) (r : Refusal) (v : Verdict) → Good ≡ cond b (Refused r) v → (b ≡ false) × (Good ≡ v)
-passed true r v e = absurd (never-good e)
-passed false r v e = (refl, e)
-
-held : (b : Bool) (r : Refusal) → Good ≡ cond b Good (Refused r) → b ≡ true
-held true r e = refl
-held false r e = absurd (never-good e)
 
 -- by cases: where the test of a case holds, its number is below m
 by-case : (a b : Bool) (p q r : Bool) (x y z m : ℕ) → (p ≡ true → x < m) → (q ≡ true → y < m) → (r ≡ true → z < m) → cond a p (cond b q r) ≡ true → cond a x (cond b y z) < m
@@ -73,11 +49,16 @@ module _ (s : List ℕ) (h : Header) where
   unfolding placesOf
   length-places = length-build (h .coordinates) _
 
+  pub place-at : (i : ℕ) → i < h .coordinates → getD (placesOf s h) i 0 ≡ placeOf h (coordinateIn s h i)
+  unfolding placesOf
+  place-at i l = getD-build 0 (h .coordinates) i (λ i. placeOf h (coordinateIn s h i)) l
+
+  pub entries-there : parametersVerdict s h ≡ Good → (i : ℕ) → i < h .coordinates → hasEntry h (coordinateIn s h i) ≡ true
+  unfolding parametersVerdict
+  entries-there e i l = entry-there i (each-good (h .coordinates) (parameterVerdict s h) e i l)
+
   pub places-inside : parametersVerdict s h ≡ Good → (i : ℕ) → i < h .coordinates → getD (placesOf s h) i 0 < modelNumbers h
-  unfolding placesOf parametersVerdict
-  places-inside e i l =
-      rw (getD-build 0 (h .coordinates) i (λ i. placeOf h (coordinateIn s h i)) l)
-      (place-inside h (coordinateIn s h i) (entry-there i (each-good (h .coordinates) (parameterVerdict s h) e i l)))
+  places-inside e i l = rw (place-at i l) (place-inside h (coordinateIn s h i) (entries-there e i l))
 
   pub request-good : requestVerdict s h ≡ Good → (goodConfig (configOf s) ≡ true) × (parametersVerdict s h ≡ Good) × (0 < h .records) × (0 < h .coordinates)
   unfolding requestVerdict

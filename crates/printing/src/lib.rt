@@ -7,7 +7,7 @@ use refusal::Refusal;
 ghost use mathlib.Core.Path.{_≡_};
 ghost use Prim.Native.Nat.{_+_, _*_, _≤_, _<_};
 ghost use lib.ListN.{length};
-ghost use Rattle.printing.specs.Lines.{wordLines, squareLines, entryLines, linesOf};
+ghost use Rattle.printing.specs.Lines.{wordLines, squareLines, entryLines, fitLines, linesOf};
 
 fn print_number(n: u64, end: &[u8]) {
     io::print_decimal(STDOUT_FILENO, n);
@@ -127,6 +127,28 @@ fn print_tests(t: bool, u: bool, c: bool) -> usize
     1
 }
 
+// `fit R S E V`, six numbers and the words of the model.
+fn print_fit(
+    stop: u64,
+    steps: u64,
+    evaluations: u64,
+    converged: bool,
+    words: u64,
+    result: &[u64],
+) -> usize
+    ensures { λ n. ⌜ n ≡ fitLines words (length (now (result .entry))) ⌝ }
+{
+    io::write_all(STDOUT_FILENO, b"fit ");
+    print_number(stop, b" ");
+    print_number(steps, b" ");
+    print_number(evaluations, b" ");
+    print_number(bit_of(converged), b"\n");
+    if 4096 < words {
+        return 1;
+    }
+    print_body(6 + words, result)
+}
+
 // The sheet of an answer whose numbers stand in the result, or its refusal; how many lines were written.
 pub fn print_sheet(answer: Answer, result: &[u64]) -> usize
     ensures { λ n. ⌜ n ≡ linesOf answer (length (now (result .entry))) ⌝ }
@@ -141,12 +163,20 @@ pub fn print_sheet(answer: Answer, result: &[u64]) -> usize
             unital,
             completely_positive,
         } => print_tests(trace_preserving, unital, completely_positive),
+        Answer::Fit {
+            stop,
+            steps,
+            evaluations,
+            converged,
+            words,
+        } => print_fit(stop, steps, evaluations, converged, words, result),
         Answer::Model { words } => print_list(b"model ", words, result),
         Answer::Diagnostics => print_diagnostics(result),
         Answer::Probes { count } => print_square(b"probes ", count, result),
         Answer::Setting { qubits } => print_list(b"setting ", qubits, result),
         Answer::Applied { size } => print_list(b"applied ", size, result),
         Answer::Choi { dimension } => print_matrix(b"choi ", dimension, result),
+        Answer::Probabilities { count } => print_list(b"probabilities ", count, result),
     }
 }
 

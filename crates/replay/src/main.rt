@@ -2,7 +2,7 @@
 // file `calls`. In all three a card or the words of a call stand after a word with their length in bytes. The file `stdout` beside src/ holds the Rust's
 // answers.
 ghost use mathlib.Core.Path.{_≡_};
-ghost use Prim.Native.Nat.{_*_, _≤_};
+ghost use Prim.Native.Nat.{_+_, _*_, _≤_};
 ghost use lib.ListN.{length};
 
 // Room for a card; the `ensures` gives the length alone, which lending a part needs.
@@ -52,6 +52,27 @@ fn answer_choi(n: u64, values: &[f64]) {
     printing::print_sheet(answer, &result);
 }
 
+fn answer_probabilities<'a>(
+    d: u64,
+    effects: u64,
+    names: &'a [u64],
+    values: &'a [f64],
+    sequence: &'a [u64],
+) {
+    let mut result = [0u64; 4096];
+    let mut work = [0.0f64; 8192];
+    let answer = library::probabilities(
+        d,
+        effects,
+        names,
+        values,
+        sequence,
+        &mut result,
+        &mut work,
+    );
+    printing::print_sheet(answer, &result);
+}
+
 // Room for the numbers of a call.
 fn numbers_room() -> [f64; 512]
     ensures { λ r. ⌜ 512 ≡ length r ⌝ }
@@ -94,7 +115,78 @@ fn choi_call(call: &[u8], count: usize, n: u64)
     answer_choi(n, &values[..m]);
 }
 
-// The entry (8 probes, 9 a setting, 10 a transfer matrix applied, 11 a Choi matrix), n, then the index, or the count of values.
+// Room for a model's numbers, and for names or a sequence.
+fn model_room() -> [f64; 4096]
+    ensures { λ r. ⌜ 4096 ≡ length r ⌝ }
+{
+    [0.0; 4096]
+}
+
+fn words_room() -> [u64; 128]
+    ensures { λ r. ⌜ 128 ≡ length r ⌝ }
+{
+    [0; 128]
+}
+
+// Puts the n words of a call from place `from` on at the front of the slice.
+fn load_words(call: &[u8], from: usize, n: usize, out: &mut [u64])
+    requires { ⌜ ((from + n) * 8 ≤ length (now call)) × (n ≤ length (now out)) ⌝ }
+{
+    for i in 0..n {
+        out[i] = numbers::word_at(call, from + i);
+    }
+}
+
+// The words of a call from place `at` on: the count of numbers, the numbers, and the rest is the sequence.
+fn sequence_call(call: &[u8], count: usize, d: u64, effects: u64, names: &[u64], at: usize)
+    requires { ⌜ count * 8 ≤ length (now call) ⌝ }
+{
+    if count <= at {
+        return;
+    }
+    let w = numbers::word_at(call, at);
+    if 4096 < w {
+        return;
+    }
+    let m = w as usize;
+    let first = at + 1;
+    if count - first < m {
+        return;
+    }
+    let end = first + m;
+    let n = count - end;
+    if 128 < n {
+        return;
+    }
+    let mut values = model_room();
+    let mut sequence = words_room();
+    numbers::load(call, first, m, &mut values);
+    load_words(call, end, n, &mut sequence);
+    answer_probabilities(d, effects, names, &values[..m], &sequence[..n]);
+}
+
+// The words of a call from place 3 on: the count of names, the names, and what follows them.
+fn probabilities_call(call: &[u8], count: usize, d: u64, effects: u64)
+    requires { ⌜ count * 8 ≤ length (now call) ⌝ }
+{
+    if count < 4 {
+        return;
+    }
+    let w = numbers::word_at(call, 3);
+    if 128 < w {
+        return;
+    }
+    let g = w as usize;
+    if count < 4 + g {
+        return;
+    }
+    let mut names = words_room();
+    load_words(call, 4, g, &mut names);
+    sequence_call(call, count, d, effects, &names[..g], 4 + g);
+}
+
+// The entry (8 probes, 9 a setting, 10 a transfer matrix applied, 11 a Choi matrix, 12 probabilities), n or the dimension, then the index, the count of values or
+// that of effects.
 fn answer_call(call: &[u8]) {
     let count = call.len() / 8;
     if count < 2 {
@@ -116,6 +208,10 @@ fn answer_call(call: &[u8]) {
     }
     if entry == 11 {
         choi_call(call, count, n);
+        return;
+    }
+    if entry == 12 {
+        probabilities_call(call, count, n, third);
         return;
     }
     apply_call(call, count, n, third);

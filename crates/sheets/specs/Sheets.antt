@@ -1,4 +1,4 @@
--- The sheet of each kind that is built: its verdict, the numbers of its header, and the words of its lines (document 01).
+-- The sheets of kinds 1 to 4 and 6: the verdict of each, the numbers of its header, and the words of its lines (document 01).
 use Prim.Native.Nat.{ℕ, _*_, _^_}
 use mathlib.Core.List.{List, []}
 use lib.Ieee.{Float}

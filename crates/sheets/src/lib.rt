@@ -1,4 +1,4 @@
-// The sheets of the kinds that are built, each of a card of its kind.
+// The sheets of kinds 1 to 4 and 6, each of a card of its kind.
 use card_layout::Header;
 use outcome::Answer;
 use positivity::Positivity;

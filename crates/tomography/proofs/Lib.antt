@@ -1,2 +1,3 @@
 pub mod Refusals
 pub mod Lengths
+pub mod Fits

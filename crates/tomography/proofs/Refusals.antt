@@ -10,7 +10,7 @@ use lib.Ieee.{Float}
 use Rattle.numbers.specs.Word.{wordsIn, wordAt}
 use Rattle.numbers.specs.Slice.{numberAt, numbersAt}
 use Rattle.refusal.specs.declared.Refusal.{Refusal}
-use Rattle.refusal.specs.declared.Refusal.the-variants.{InvalidQubits, Shape, InvalidCard, ShortBuffer}
+use Rattle.refusal.specs.declared.Refusal.the-variants.{InvalidQubits, Shape, ShortBuffer}
 use Rattle.refusal.specs.Values.{codeOf}
 use Rattle.card_layout.specs.declared.Header.{Header}
 use Rattle.card_layout.specs.Rules.{qubitsBreak}
@@ -25,8 +25,9 @@ use Rattle.outcome.specs.Outcome.{roomy}
 use Rattle.outcome.proofs.Refusals as outcome
 use Rattle.outcome.proofs.Refusals.{Sound, other, either}
 use Rattle.gst_sheets.proofs.Refusals.{diagnostics-sound}
+use Rattle.fit_sheets.proofs.Refusals.{fit-sound}
 use Rattle.sheets.proofs.Refusals.{density-sound, projected-sound, process-sound, physical-sound, gauge-sound}
-use Rattle.tomography.specs.Sheet.{modelSheet, kindSheet, readSheet, built, sheetOf, Sheet}
+use Rattle.tomography.specs.Sheet.{modelSheet, kindSheet, readSheet, sheetOf, Sheet}
 
 -- none of the reader's refusals is 16
 abbrev Reads : Reading → Type 0
@@ -46,10 +47,7 @@ reads s = go (faultOf s) (qubitsBreak (header s)) (eqb (wantedWords (header s)) 
 
 models : (s : List ℕ) (h : Header) → Sound (modelSheet s h)
 unfolding modelSheet
-models s h =
-    either (eqb (h .kind) 6) (gauge-sound s h)
-    (either (eqb (h .kind) 7) (diagnostics-sound s h)
-    (other (InvalidCard 0) (eqb-false 15 16 refl)))
+models s h = either (eqb (h .kind) 5) (fit-sound s h) (either (eqb (h .kind) 6) (gauge-sound s h) (diagnostics-sound s h))
 
 kinds : (s : List ℕ) (h : Header) → Sound (kindSheet s h)
 unfolding kindSheet
@@ -66,15 +64,15 @@ after-reading s (read.Refused r) f = other r f
 
 pub sheet-sound : (s : List ℕ) → Sound (sheetOf s)
 unfolding sheetOf
-sheet-sound s = either (built s) (after-reading s (readOf s) (reads s)) (other (InvalidCard 0) (eqb-false 15 16 refl))
+sheet-sound s = after-reading s (readOf s) (reads s)
 
 -- ---- what a caller of the entry point may rely on
 
 module _ (card : List ℕ) {result₀ result₁ : List ℕ} {work₀ work₁ : List Float} where
   -- a refusal writes no word of the result
   pub refusal-writes-nothing : {r : Refusal} → Sheet card result₀ result₁ work₀ work₁ (Refused r) → result₁ ≡ result₀
-  refusal-writes-nothing s = outcome.refusal-writes-nothing (sheet-sound card) s
+  refusal-writes-nothing s = outcome.refusal-writes-nothing (sheet-sound card) (s .call)
 
   -- 16 in its case and in no other
   pub short-case : Sheet card result₀ result₁ work₀ work₁ (Refused ShortBuffer) → roomy result₀ work₀ ≡ false
-  short-case s = outcome.short-case (sheet-sound card) s
+  short-case s = outcome.short-case (sheet-sound card) (s .call)

@@ -1,26 +1,30 @@
 -- The sheet of a card, by its kind, and what a call of the entry point promises.
 use Prim.Native.Nat.{ℕ}
-use mathlib.Core.Bool.{Bool, cond, not, _&&_}
+use mathlib.Core.Path.{_≡_}
+use mathlib.Core.Bool.{Bool, true, cond}
 use mathlib.Core.List.{List}
-use lib.ListN.{length}
-use lib.Dec.{eqb, leb}
+use lib.Dec.{eqb}
 use lib.Ieee.{Float}
-use Rattle.refusal.specs.declared.Refusal.the-variants.{InvalidCard}
 use Rattle.card_layout.specs.declared.Header.{Header}
 use Rattle.card.specs.declared.Reading.{Reading}
 use Rattle.card.specs.declared.Reading.the-variants as read
-use Rattle.card.specs.Reading.{header, readOf}
+use Rattle.card.specs.Reading.{readOf}
+use Rattle.descent.specs.Claim.{distinct}
+use Rattle.parameters.specs.Parameters.{placesOf}
 use Rattle.outcome.specs.declared.Answer.{Answer}
+use Rattle.outcome.specs.declared.Answer.the-variants.{Fit}
 use Rattle.outcome.specs.Outcome.{Outcome, refused, Call}
 use Rattle.gst_sheets.specs.Sheets.{diagnosticsSheet}
+use Rattle.fit_sheets.specs.Sheets.{fitSheet}
+use Rattle.fit_sheets.specs.Buyer.{Buyer}
 use Rattle.sheets.specs.Sheets.{densitySheet, projectedSheet, processSheet, physicalSheet, gaugeSheet}
 
--- the sheet of a card that the reader accepts: of the kinds that have a model, and of all
+-- the sheet of a card that the reader accepts: of the kinds that have a model, 5 to 7, and of all
 unfoldable pub modelSheet : List ℕ → Header → Outcome
 modelSheet s h =
-    cond (eqb (h .kind) 6) (gaugeSheet s h)
-    (cond (eqb (h .kind) 7) (diagnosticsSheet s h)
-    (refused (InvalidCard 0)))
+    cond (eqb (h .kind) 5) (fitSheet s h)
+    (cond (eqb (h .kind) 6) (gaugeSheet s h)
+    (diagnosticsSheet s h))
 
 unfoldable pub kindSheet : List ℕ → Header → Outcome
 kindSheet s h =
@@ -35,17 +39,12 @@ abbrev pub readSheet : List ℕ → Reading → Outcome
 readSheet s (read.Refused r) = refused r
 readSheet s (read.Accepted h) = kindSheet s h
 
--- the kinds that are built: all that the reader knows but this one
-unfoldable pub kindBuilt : ℕ → Bool
-kindBuilt k = not (eqb k 5)
-
--- word 0 is there and names another kind; the one that is not built is an unknown one, whatever else the card holds
-unfoldable pub built : List ℕ → Bool
-built s = leb 8 (length s) && kindBuilt (header s .kind)
-
 unfoldable pub sheetOf : List ℕ → Outcome
-sheetOf s = cond (built s) (readSheet s (readOf s)) (refused (InvalidCard 0))
+sheetOf s = readSheet s (readOf s)
 
 -- What a call returns and leaves behind, whatever it is lent.
-abbrev pub Sheet : List ℕ → List ℕ → List ℕ → List Float → List Float → Answer → Type 0
-Sheet card result₀ result₁ work₀ work₁ r = Call (sheetOf card) result₀ result₁ work₀ work₁ r
+pub record Sheet (card result₀ result₁ : List ℕ) (work₀ work₁ : List Float) (r : Answer) : Type 0 where
+  pub call : Call (sheetOf card) result₀ result₁ work₀ work₁ r
+  -- the buyer's statement, of every fit whose coordinates name different entries
+  pub fit : (h : Header) → readOf card ≡ read.Accepted h → h .kind ≡ 5 → distinct (placesOf card h) ≡ true
+      → (R S E : ℕ) (v : Bool) (M : ℕ) → r ≡ Fit R S E v M → Buyer card h R S E v result₁

@@ -1,30 +1,29 @@
 // The entry point: the sheet of a card. It asks nothing of its caller, tests the lengths of the slices first, and clears the work slice at every exit.
 use card::Reading;
 use card_layout::Header;
-use card_layout::header_of;
 use outcome::Answer;
 use refusal::Refusal;
 ghost use mathlib.Core.Path.{_≡_};
-ghost use Prim.Native.Nat.{ℕ, _≤_, _<_};
+ghost use Prim.Native.Nat.{_≤_};
 ghost use lib.ListN.{length};
 ghost use Rattle.card.specs.Reading.{readOf};
 ghost use Rattle.card.specs.declared.Reading.the-variants.{Accepted};
 ghost use Rattle.outcome.specs.Outcome.{Gives, inRoom};
-ghost use Rattle.tomography.specs.Sheet.{kindBuilt, modelSheet, kindSheet, built, sheetOf, Sheet};
+ghost use Rattle.tomography.specs.Sheet.{modelSheet, kindSheet, sheetOf, Sheet};
 
 // A card with a model that the reader accepts.
 fn run_model(card: &[u8], h: Header, result: &mut [u64], work: &mut [f64]) -> Answer
-    requires { ⌜ (readOf (now card) ≡ Accepted h) × (4096 ≤ length (now result)) × (8192 ≤ length (now work)) ⌝ }
+    requires { ⌜ (readOf (now card) ≡ Accepted h) × (5 ≤ h .kind) × (4096 ≤ length (now result)) × (8192 ≤ length (now work)) ⌝ }
     ensures { λ r. ⌜ Gives (modelSheet (now (card .entry)) h) (now (result .entry)) (now (result .exit)) r ⌝ }
 {
     let kind = h.kind;
+    if kind == 5 {
+        return fit_sheets::fit_sheet(card, h, result);
+    }
     if kind == 6 {
         return sheets::gauge_sheet(card, h, result, work);
     }
-    if kind == 7 {
-        return gst_sheets::diagnostics_sheet(card, h, result);
-    }
-    Answer::Refused(Refusal::InvalidCard(0))
+    gst_sheets::diagnostics_sheet(card, h, result)
 }
 
 // A card that the reader accepts.
@@ -49,29 +48,10 @@ fn run_kind(card: &[u8], h: Header, result: &mut [u64], work: &mut [f64]) -> Ans
     run_model(card, h, result, work)
 }
 
-fn is_kind_built(kind: usize) -> bool
-    ensures { λ r. ⌜ r ≡ kindBuilt kind ⌝ }
-{
-    kind != 5
-}
-
-fn is_built(card: &[u8]) -> bool
-    ensures { λ r. ⌜ r ≡ built (now (card .entry)) ⌝ }
-{
-    if card.len() < 8 {
-        return false;
-    }
-    let h = header_of(numbers::word_at(card, 0));
-    is_kind_built(h.kind)
-}
-
 fn run(card: &[u8], result: &mut [u64], work: &mut [f64]) -> Answer
     requires { ⌜ (4096 ≤ length (now result)) × (8192 ≤ length (now work)) ⌝ }
     ensures { λ r. ⌜ Gives (sheetOf (now (card .entry))) (now (result .entry)) (now (result .exit)) r ⌝ }
 {
-    if !is_built(card) {
-        return Answer::Refused(Refusal::InvalidCard(0));
-    }
     let read = card::read(card);
     match read {
         Reading::Refused(r) => Answer::Refused(r),

@@ -25,7 +25,7 @@ fn vet_vector(vectors: &[f64], tolerance: f64, p: usize, k: usize) -> Verdict
 }
 
 // Vector by vector; a refusal stays.
-fn vet_all(vectors: &[f64], tolerance: f64, p: usize) -> Verdict
+fn vet_each(vectors: &[f64], tolerance: f64, p: usize) -> Verdict
     requires { ⌜ (1 ≤ p) × (p ≤ 16) × (2 * (p * p) ≤ length (now vectors)) ⌝ }
     ensures { λ r. ⌜ r ≡ vettedOf tolerance (now (vectors .entry)) p ⌝ }
 {
@@ -36,6 +36,17 @@ fn vet_all(vectors: &[f64], tolerance: f64, p: usize) -> Verdict
         found = refusal::first_of(found, v);
     }
     found
+}
+
+// The same, with the size of two qubits as a constant.
+fn vet_all(vectors: &[f64], tolerance: f64, p: usize) -> Verdict
+    requires { ⌜ (1 ≤ p) × (p ≤ 16) × (2 * (p * p) ≤ length (now vectors)) ⌝ }
+    ensures { λ r. ⌜ r ≡ vettedOf tolerance (now (vectors .entry)) p ⌝ }
+{
+    if p == 16 {
+        return vet_each(vectors, tolerance, 16);
+    }
+    vet_each(vectors, tolerance, p)
 }
 
 // Component c of each vector.
@@ -49,7 +60,7 @@ fn column(vectors: &[f64], from: usize, c: usize, p: usize, row: &mut [f64])
 }
 
 // The p vectors from number `from` on as columns.
-fn columns(vectors: &[f64], from: usize, p: usize, out: &mut [f64])
+fn columns_of(vectors: &[f64], from: usize, p: usize, out: &mut [f64])
     requires { ⌜ (p ≤ 16) × (from + p * p ≤ length (now vectors)) × (p * p ≤ length (now out)) ⌝ }
     ensures { λ _. ⌜ now (out .exit) ≡ columnsOf (now (vectors .entry)) from p ++ drop (p * p) (now (out .entry)) ⌝ }
 {
@@ -58,6 +69,18 @@ fn columns(vectors: &[f64], from: usize, p: usize, out: &mut [f64])
         let end = start + p;
         column(vectors, from, c, p, &mut out[start..end]);
     }
+}
+
+// The same; the size of two qubits, 16, is passed on as a constant, for the compiler.
+fn columns(vectors: &[f64], from: usize, p: usize, out: &mut [f64])
+    requires { ⌜ (p ≤ 16) × (from + p * p ≤ length (now vectors)) × (p * p ≤ length (now out)) ⌝ }
+    ensures { λ _. ⌜ now (out .exit) ≡ columnsOf (now (vectors .entry)) from p ++ drop (p * p) (now (out .entry)) ⌝ }
+{
+    if p == 16 {
+        columns_of(vectors, from, 16, out);
+        return;
+    }
+    columns_of(vectors, from, p, out);
 }
 
 // Room for a matrix of 16 by 16; the `ensures` gives the length, which lending a part needs.

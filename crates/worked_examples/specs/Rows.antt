@@ -11,7 +11,7 @@ use Rattle.numbers.specs.Number.{finite, positive, abs, max, negative, precedes
 use Rattle.numbers.specs.Slice.{numbersAt, wordsOf, blank, allFinite}
 use Rattle.card_layout.specs.Layout.{times, modelRoles, recordRoles, afterWord0, layout, breaks, faulty}
 use Rattle.card_layout.specs.Limits.{unknown, limitsOf}
-use Rattle.card_layout.specs.Rules.{past, noMatrix, word0Breaks, qubitsBreak, sequenceBreaks, indicesBreak}
+use Rattle.card_layout.specs.Rules.{past, noMatrix, word0Breaks, qubitsBreak, sequenceBreaks, indicesBreak, coordinateBreaks}
 use Rattle.card_places.specs.Places.{modelAt}
 use Rattle.card.specs.Reading.{header, examined, wordAtFault, sizeAtFault, atFault, lowest, faultOf, lengthRead, readOf}
 use Rattle.pauli.specs.Exact.{product, pauliMatrices, stringEntry}
@@ -44,12 +44,15 @@ use Rattle.likelihood.specs.Multinomial.{badProbability, anyBad, failing, clamp
 use Rattle.diagnostics.specs.Diagnostics.{countsOf, recordOnward, likelihoodBy}
 use Rattle.logarithm.specs.Series.{nested, ln1p, lnRatio, entryOf}
 use Rattle.logarithm.specs.Steps.{poly, part as lnPart, lnOf, lnBy, ln}
-use Rattle.card_parts.specs.Parts.{sequenceOf, countIn}
+use Rattle.card_parts.specs.Parts.{sequenceOf, countIn, coordinateIn}
 use Rattle.gst_sheets.specs.Sheets.{toleranceSheet, diagnosticsSheet}
-use Rattle.tomography.specs.Sheet.{modelSheet, kindSheet, kindBuilt, built, sheetOf}
+use Rattle.parameters.specs.Parameters.{configOf, goodConfig, hasEntry, placeOf, placesOf, repeated, parameterVerdict, parametersVerdict, requestVerdict}
+use Rattle.descent.specs.Fit.{put, usable, distance, objectiveOf, evaluate, displacement, derivative, gradient, norm, stepLength, trial, searchTo, step, after as afterSteps, closed, fitOf}
+use Rattle.fit_sheets.specs.Sheets.{fitWords, requestSheet, fitSheet}
+use Rattle.tomography.specs.Sheet.{modelSheet, kindSheet, sheetOf}
 use Rattle.refusal.specs.declared.Refusal.the-variants.{InvalidNormalization, Operator, SingularGaugeTransform, EigensolverDidNotConverge}
 use Rattle.refusal.specs.Verdicts.{finiteOr, checkedNumbers}
-use Rattle.outcome.specs.declared.Answer.the-variants.{Density, Projected, Physical, Model, Diagnostics, Refused}
+use Rattle.outcome.specs.declared.Answer.the-variants.{Density, Projected, Physical, Fit, Model, Diagnostics, Refused}
 use Rattle.outcome.specs.Outcome.{Outcome, refused}
 use Rattle.worked_examples.specs.Cards.{card}
 
@@ -91,8 +94,10 @@ rows =
     ∷ record { words = 0x6002010000000000 ∷ 0x3ff0000000000000 ∷ 0x4000000000000000 ∷ 0x3ff0000000000000 ∷ 0x3ff0000000000000 ∷ 0x3ff0000000000000 ∷ 0 ∷ 0 ∷ 0x3d30000000000000 ∷ []; outcome = record { answer = Model 4; words = 0x3ff0000000000000 ∷ 0x3d40000000000000 ∷ 0x3ff0000000000000 ∷ 0x42b0000000000000 ∷ [] } }
     -- kind 7, counts 1 and 1 at the probabilities 2^-1074 and 1: the deviance is infinite
     ∷ record { words = 0x7001020000010000 ∷ 0x3eb0000000000000 ∷ 0x3ff0000000000000 ∷ 1 ∷ 0x3ff0000000000000 ∷ 0 ∷ 0 ∷ 0 ∷ 0 ∷ 0 ∷ 1 ∷ 1 ∷ []; outcome = record { answer = Diagnostics; words = 0xc0874385446d71c3 ∷ 0x7ff0000000000000 ∷ [] } }
+    -- kind 5, state 1, effects 0.5 and 0.5, no gates, counts 1 and 1, default controls: effect 0 is moved, and both its probes fail
+    ∷ record { words = 0x5001020000010100 ∷ 200 ∷ 0x3fb999999999999a ∷ 0x3ee4f8b588e368f1 ∷ 0x3e45798ee2308c3a ∷ 0x3d719799812dea11 ∷ 0x3e112e0be826d695 ∷ 24 ∷ 0 ∷ 0x3ff0000000000000 ∷ 0x3fe0000000000000 ∷ 0x3fe0000000000000 ∷ 0 ∷ 0 ∷ 0 ∷ 0 ∷ 0 ∷ 1 ∷ 1 ∷ 0x2000000000000000 ∷ []; outcome = record { answer = Fit 1 0 5 true 3; words = 0xbff62e42fefa39ef ∷ 0 ∷ 0xbff62e42fefa39ef ∷ 0 ∷ 0x3ff62e42fefa39ef ∷ 0 ∷ 0x3ff0000000000000 ∷ 0x3fe0000000000000 ∷ 0x3fe0000000000000 ∷ [] } }
     ∷ []
 
 pub rows-right : Right rows
-unfolding isNan from build joined fold wordAt finite positive abs max negative precedes numbersAt wordsOf blank allFinite times modelRoles recordRoles afterWord0 layout breaks faulty unknown limitsOf past noMatrix word0Breaks qubitsBreak sequenceBreaks indicesBreak modelAt header examined wordAtFault sizeAtFault atFault lowest faultOf lengthRead readOf product pauliMatrices stringEntry pinned weight densityPart densityOf vetOf admitted testedOf sumOf dotOf matVecOf rowMatOf matMulOf swapped dividedRow lessRow eliminatedRow eliminated clearedBy scaleOf largerRow pivotRow besideAt besideIdentity columnReduced reductionOf rightHalves invertible inverseOf modelOf stateOf effectOf nameOf gateOf transformOf anyOf checkedOf numbersOf gateWords gatesWords modelWordsOf thresholdOf invertedOf inverseIn stateIn effectIn gateIn transformed newModel gaugedOf finiteOr checkedNumbers unitsOf significandOf exponentOf floorRoot nearRoot rootOf sqrt plus minus complexTimes scaled divided conjugate min magnitude entries partsOf matrix scaleBy matrixScale larger pivotIn pivotOf tangent turnOf turnedP turnedQ columnsAt columnsTurned turnedAt turned before insert orderBy sortedBy excess sumFrom stays activeCount threshold lowered filling jacobi unitVectorAt unit diagonal columnsIn ascending eigOf ascendingValues eigenvaluesOf coefficient term choiPart choiOf choiTested noneBelow choiValues toleranceOf positivityVerdict completelyPositive unitAt near nearUnit tracePreserving unital halvedAt halved termAt mixedAt mixed spectralNumbers spectralVerdict admission projectedVerdict projectedNumbers densitySheet projectedSheet processSheetOf physicalOf gaugeVerdict gaugeSheet through measured probabilitiesOf presentOf badProbability anyBad failing clamped totalOf countedOf plusTerm withTerm withTerms withRecord countsOf recordOnward likelihoodBy nested ln1p lnRatio entryOf poly lnPart lnOf lnBy ln sequenceOf countIn toleranceSheet diagnosticsSheet modelSheet kindSheet kindBuilt built sheetOf ofBits ofFields odd toBits add sub mul div neg sum round units lt le eq span climb size ofInt
-rows-right = (refl, (refl, (refl, (refl, (refl, (refl, (refl, (refl, (refl, (refl, (refl, (refl, tt))))))))))))
+unfolding isNan from build joined fold wordAt finite positive abs max negative precedes numbersAt wordsOf blank allFinite times modelRoles recordRoles afterWord0 layout breaks faulty unknown limitsOf past noMatrix word0Breaks qubitsBreak sequenceBreaks indicesBreak modelAt header examined wordAtFault sizeAtFault atFault lowest faultOf lengthRead readOf product pauliMatrices stringEntry pinned weight densityPart densityOf vetOf admitted testedOf sumOf dotOf matVecOf rowMatOf matMulOf swapped dividedRow lessRow eliminatedRow eliminated clearedBy scaleOf largerRow pivotRow besideAt besideIdentity columnReduced reductionOf rightHalves invertible inverseOf modelOf stateOf effectOf nameOf gateOf transformOf anyOf checkedOf numbersOf gateWords gatesWords modelWordsOf thresholdOf invertedOf inverseIn stateIn effectIn gateIn transformed newModel gaugedOf finiteOr checkedNumbers unitsOf significandOf exponentOf floorRoot nearRoot rootOf sqrt plus minus complexTimes scaled divided conjugate min magnitude entries partsOf matrix scaleBy matrixScale larger pivotIn pivotOf tangent turnOf turnedP turnedQ columnsAt columnsTurned turnedAt turned before insert orderBy sortedBy excess sumFrom stays activeCount threshold lowered filling jacobi unitVectorAt unit diagonal columnsIn ascending eigOf ascendingValues eigenvaluesOf coefficient term choiPart choiOf choiTested noneBelow choiValues toleranceOf positivityVerdict completelyPositive unitAt near nearUnit tracePreserving unital halvedAt halved termAt mixedAt mixed spectralNumbers spectralVerdict admission projectedVerdict projectedNumbers densitySheet projectedSheet processSheetOf physicalOf gaugeVerdict gaugeSheet through measured probabilitiesOf presentOf badProbability anyBad failing clamped totalOf countedOf plusTerm withTerm withTerms withRecord countsOf recordOnward likelihoodBy nested ln1p lnRatio entryOf poly lnPart lnOf lnBy ln sequenceOf countIn toleranceSheet diagnosticsSheet configOf goodConfig hasEntry placeOf placesOf repeated parameterVerdict parametersVerdict requestVerdict coordinateIn coordinateBreaks put usable distance objectiveOf evaluate displacement derivative gradient norm stepLength trial searchTo step afterSteps closed fitOf fitWords requestSheet fitSheet modelSheet kindSheet sheetOf ofBits ofFields odd toBits add sub mul div neg sum round units lt le eq span climb size ofInt
+rows-right = (refl, (refl, (refl, (refl, (refl, (refl, (refl, (refl, (refl, (refl, (refl, (refl, (refl, tt)))))))))))))

@@ -10,17 +10,11 @@ use Rattle.diagnostics.proofs.add_record.Tie as tie
 sequence-length-requires : tie.Need-sequence-length-requires
 sequence-length-requires c κs = search needs
 
-sequence-room-requires : tie.Need-sequence-room-requires
-sequence-room-requires c κs = search needs
-
-slice-aggregate-load-sequence : tie.Need-slice-aggregate-load-sequence
-slice-aggregate-load-sequence c = search needs
-
 load-sequence-requires : tie.Need-load-sequence-requires
 load-sequence-requires c κs = search needs
 
-array-share-prefix-sequence : tie.Need-array-share-prefix-sequence
-array-share-prefix-sequence c = search needs
+slice-reshare-prefix-check-sequence : tie.Need-slice-reshare-prefix-check-sequence
+slice-reshare-prefix-check-sequence c = search needs
 
 slice-aggregate-check-sequence : tie.Need-slice-aggregate-check-sequence
 slice-aggregate-check-sequence c = sym (length-take-le _ _ (search needs))
@@ -34,38 +28,52 @@ enum-known-found c = search needs
 enum-told : tie.Need-enum-told
 enum-told c = search needs
 
-array-share-prefix-sequence-2 : tie.Need-array-share-prefix-sequence-2
-array-share-prefix-sequence-2 c = search needs
+slice-reshare-prefix-weigh-record : tie.Need-slice-reshare-prefix-weigh-record
+slice-reshare-prefix-weigh-record c = search needs
 
 slice-aggregate-weigh-record : tie.Need-slice-aggregate-weigh-record
 slice-aggregate-weigh-record c = sym (length-take-le _ _ (search needs))
 
 weigh-record-requires : tie.Need-weigh-record-requires
 weigh-record-requires c κs =
-    let s = c .before .before .before .before .before .before .before .before .before .before .before .before .before in
-    (s .pre .0, s .pre .1 .there, s .pre .2, s .pre .3, sym (c .before .before .before .check-sequence .ensures) ∙ c .before .enum-told .given .1)
+    let s = c .before .before .before .before .before .before .before .before .before .before .before .before .before .before .before .before .before .before in
+    (s .pre .0, s .pre .1 .there, s .pre .2, s .pre .3, sym (c .before .before .before .before .before .check-sequence .ensures) ∙ c .before .before .before .enum-told .given .1, s .pre .5, s .pre .6)
+
+same-length : tie.Need-same-length
+same-length c = search needs
 
 returns : tie.Need-returns
-returns c = absent _ _ _ _ _ _ _ _ _ _ (front-again _ _ (c .before .before .before .before .before .before .load-sequence .ensures) (sym (c .before .before .before .before .before .before .before .before .before .sequence-length .ensures))) (c .before .before .before .check-sequence .ensures) _ (c .before .found .given .1)
+returns c = absent _ _ _ _ _ _ _ _ _ _ (front-again _ _ (c .before .before .before .before .before .before .before .load-sequence .ensures) (sym (c .before .before .before .before .before .before .before .before .before .sequence-length .ensures))) (c .before .before .before .check-sequence .ensures) _ (c .before .found .given .1)
+
+same-length-2 : tie.Need-same-length-2
+same-length-2 c = search needs
+
+same-length-3 : tie.Need-same-length-3
+same-length-3 c = search needs
+
+same-length-4 : tie.Need-same-length-4
+same-length-4 c = search needs
 
 returns-2 : tie.Need-returns-2
-returns-2 c = present _ _ _ _ _ _ _ _ _ _ (front-again _ _ (c .before .before .before .before .before .before .before .load-sequence .ensures) (sym (c .before .before .before .before .before .before .before .before .before .before .sequence-length .ensures))) (c .before .before .before .before .check-sequence .ensures) _ (c .before .before .enum-told .given .1) (c .weigh-record .ensures)
+returns-2 c = present _ _ _ _ _ _ _ _ _ _ (front-again _ _ (c .before .before .before .before .before .before .before .before .before .before .before .before .before .before .load-sequence .ensures) (sym (c .before .before .before .before .before .before .before .before .before .before .before .before .before .before .before .before .sequence-length .ensures))) (c .before .before .before .before .before .before .before .before .before .before .check-sequence .ensures) _ (c .before .before .before .before .before .before .before .before .enum-told .given .1) (c .before .before .before .before .weigh-record .ensures)
 
 pub add-record-spec : {M : Type 1} → statement M
 add-record-spec =
     tie.close
     (tie.spec
     sequence-length-requires
-    sequence-room-requires
-    slice-aggregate-load-sequence
     load-sequence-requires
-    array-share-prefix-sequence
+    slice-reshare-prefix-check-sequence
     slice-aggregate-check-sequence
     check-sequence-requires
     enum-known-found
     enum-told
-    array-share-prefix-sequence-2
+    slice-reshare-prefix-weigh-record
     slice-aggregate-weigh-record
     weigh-record-requires
+    same-length
     returns
+    same-length-2
+    same-length-3
+    same-length-4
     returns-2)

@@ -17,8 +17,17 @@ enum-told c = search needs
 enum-known-l-2 : tie.Need-enum-known-l-2
 enum-known-l-2 c = search needs
 
+same-length : tie.Need-same-length
+same-length c = search needs
+
+same-length-2 : tie.Need-same-length-2
+same-length-2 c = search needs
+
+same-length-3 : tie.Need-same-length-3
+same-length-3 c = search needs
+
 returns : tie.Need-returns
-returns c = c .add-record .ensures ∙ ap (onward _) (sym (c .before .before .l .given .1))
+returns c = c .before .before .before .before .before .before .add-record .ensures ∙ ap (onward _) (sym (c .before .before .before .before .before .before .before .before .before .before .before .l .given .1))
 
 returns-2 : tie.Need-returns-2
 returns-2 c = ap (onward _) (sym (c .enum-told .given .1))
@@ -34,6 +43,9 @@ record-onward-spec =
     add-record-requires
     enum-told
     enum-known-l-2
+    same-length
+    same-length-2
+    same-length-3
     returns
     returns-2
     returns-3)

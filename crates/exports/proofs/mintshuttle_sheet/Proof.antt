@@ -1,5 +1,5 @@
 -- `exports::mintshuttle_sheet` meets its contract. Assumes nothing.
-use Rattle.exports.proofs.Entries.{nothing-told, all-told}
+use Rattle.exports.proofs.Entries.{sheet-not-told, sheet-told}
 use mathlib.Core.Path.{refl}
 use borrow.Author.Needs.{needs}
 use Rattle.exports.proofs.mintshuttle_sheet.Statement.{statement}
@@ -12,7 +12,7 @@ same-length : tie.Need-same-length
 same-length c = search needs
 
 returns : tie.Need-returns
-returns c = nothing-told _ _ _ _ _ _ _ (c .before .before .before .before .if1 .taken) refl refl (c .before .before .clear .ensures)
+returns c = sheet-not-told _ _ _ _ _ _ _ (c .before .before .before .before .if1 .taken) refl refl (c .before .before .clear .ensures)
 
 sheet-requires : tie.Need-sheet-requires
 sheet-requires c κs = search needs
@@ -30,7 +30,7 @@ same-length-4 : tie.Need-same-length-4
 same-length-4 c = search needs
 
 returns-2 : tie.Need-returns-2
-returns-2 c = all-told _ _ _ _ _ _ _ _ _ (c .before .before .before .before .before .before .before .before .before .before .before .if1 .left) (c .before .before .before .before .before .before .before .before .sheet .ensures) (c .before .before .put-answer .ensures)
+returns-2 c = sheet-told _ _ _ _ _ _ _ _ _ (c .before .before .before .before .before .before .before .before .before .before .before .if1 .left) (c .before .before .before .before .before .before .before .before .sheet .ensures) (c .before .before .put-answer .ensures)
 
 pub mintshuttle-sheet-spec : {M : Type 1} → statement M
 mintshuttle-sheet-spec =

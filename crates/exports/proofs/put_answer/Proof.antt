@@ -33,6 +33,12 @@ put-tests-requires c κs = search needs
 enum-known-a-5 : tie.Need-enum-known-a-5
 enum-known-a-5 c = search needs
 
+put-fit-requires : tie.Need-put-fit-requires
+put-fit-requires c κs = search needs
+
+enum-known-a-6 : tie.Need-enum-known-a-6
+enum-known-a-6 c = search needs
+
 put-header-requires-4 : tie.Need-put-header-requires-4
 put-header-requires-4 c κs = search needs
 
@@ -42,32 +48,38 @@ enum-told c = search needs
 put-header-requires-5 : tie.Need-put-header-requires-5
 put-header-requires-5 c κs = search needs
 
-enum-known-a-6 : tie.Need-enum-known-a-6
-enum-known-a-6 c = search needs
+enum-known-a-7 : tie.Need-enum-known-a-7
+enum-known-a-7 c = search needs
 
 put-header-requires-6 : tie.Need-put-header-requires-6
 put-header-requires-6 c κs = search needs
 
-enum-known-a-7 : tie.Need-enum-known-a-7
-enum-known-a-7 c = search needs
+enum-known-a-8 : tie.Need-enum-known-a-8
+enum-known-a-8 c = search needs
 
 put-header-requires-7 : tie.Need-put-header-requires-7
 put-header-requires-7 c κs = search needs
 
-enum-known-a-8 : tie.Need-enum-known-a-8
-enum-known-a-8 c = search needs
+enum-known-a-9 : tie.Need-enum-known-a-9
+enum-known-a-9 c = search needs
 
 put-header-requires-8 : tie.Need-put-header-requires-8
 put-header-requires-8 c κs = search needs
 
-enum-known-a-9 : tie.Need-enum-known-a-9
-enum-known-a-9 c = search needs
+enum-known-a-10 : tie.Need-enum-known-a-10
+enum-known-a-10 c = search needs
 
 put-header-requires-9 : tie.Need-put-header-requires-9
 put-header-requires-9 c κs = search needs
 
-enum-known-a-10 : tie.Need-enum-known-a-10
-enum-known-a-10 c = search needs
+enum-known-a-11 : tie.Need-enum-known-a-11
+enum-known-a-11 c = search needs
+
+put-header-requires-10 : tie.Need-put-header-requires-10
+put-header-requires-10 c κs = search needs
+
+enum-known-a-12 : tie.Need-enum-known-a-12
+enum-known-a-12 c = search needs
 
 put-refusal-requires : tie.Need-put-refusal-requires
 put-refusal-requires c κs = search needs
@@ -100,43 +112,55 @@ same-length-5 : tie.Need-same-length-5
 same-length-5 c = search needs
 
 returns-5 : tie.Need-returns-5
-returns-5 c = in-case answerCode answerWords (now (c .before .before .before .before .before .before .before .before .args .out)) (c .before .before .before .before .before .a5 .given .1) (c .before .before .put-header4 .ensures .0) (c .before .before .put-header4 .ensures .1)
+returns-5 c = in-case answerCode answerWords (now (c .before .before .before .before .before .before .before .before .args .out)) (c .before .before .before .before .before .a5 .given .1) (c .before .before .put-fit .ensures .0) (c .before .before .put-fit .ensures .1)
 
 same-length-6 : tie.Need-same-length-6
 same-length-6 c = search needs
 
 returns-6 : tie.Need-returns-6
-returns-6 c = in-case answerCode answerWords (now (c .before .before .before .before .before .before .before .args .out)) (c .before .before .before .before .enum-told .given .1) (c .before .before .put-header5 .ensures .0) (c .before .before .put-header5 .ensures .1)
+returns-6 c = in-case answerCode answerWords (now (c .before .before .before .before .before .before .before .before .args .out)) (c .before .before .before .before .before .a6 .given .1) (c .before .before .put-header4 .ensures .0) (c .before .before .put-header4 .ensures .1)
 
 same-length-7 : tie.Need-same-length-7
 same-length-7 c = search needs
 
 returns-7 : tie.Need-returns-7
-returns-7 c = in-case answerCode answerWords (now (c .before .before .before .before .before .before .before .before .args .out)) (c .before .before .before .before .before .a6 .given .1) (c .before .before .put-header6 .ensures .0) (c .before .before .put-header6 .ensures .1)
+returns-7 c = in-case answerCode answerWords (now (c .before .before .before .before .before .before .before .args .out)) (c .before .before .before .before .enum-told .given .1) (c .before .before .put-header5 .ensures .0) (c .before .before .put-header5 .ensures .1)
 
 same-length-8 : tie.Need-same-length-8
 same-length-8 c = search needs
 
 returns-8 : tie.Need-returns-8
-returns-8 c = in-case answerCode answerWords (now (c .before .before .before .before .before .before .before .before .args .out)) (c .before .before .before .before .before .a7 .given .1) (c .before .before .put-header7 .ensures .0) (c .before .before .put-header7 .ensures .1)
+returns-8 c = in-case answerCode answerWords (now (c .before .before .before .before .before .before .before .before .args .out)) (c .before .before .before .before .before .a7 .given .1) (c .before .before .put-header6 .ensures .0) (c .before .before .put-header6 .ensures .1)
 
 same-length-9 : tie.Need-same-length-9
 same-length-9 c = search needs
 
 returns-9 : tie.Need-returns-9
-returns-9 c = in-case answerCode answerWords (now (c .before .before .before .before .before .before .before .before .args .out)) (c .before .before .before .before .before .a8 .given .1) (c .before .before .put-header8 .ensures .0) (c .before .before .put-header8 .ensures .1)
+returns-9 c = in-case answerCode answerWords (now (c .before .before .before .before .before .before .before .before .args .out)) (c .before .before .before .before .before .a8 .given .1) (c .before .before .put-header7 .ensures .0) (c .before .before .put-header7 .ensures .1)
 
 same-length-10 : tie.Need-same-length-10
 same-length-10 c = search needs
 
 returns-10 : tie.Need-returns-10
-returns-10 c = in-case answerCode answerWords (now (c .before .before .before .before .before .before .before .before .args .out)) (c .before .before .before .before .before .a9 .given .1) (c .before .before .put-header9 .ensures .0) (c .before .before .put-header9 .ensures .1)
+returns-10 c = in-case answerCode answerWords (now (c .before .before .before .before .before .before .before .before .args .out)) (c .before .before .before .before .before .a9 .given .1) (c .before .before .put-header8 .ensures .0) (c .before .before .put-header8 .ensures .1)
 
 same-length-11 : tie.Need-same-length-11
 same-length-11 c = search needs
 
 returns-11 : tie.Need-returns-11
-returns-11 c = in-case answerCode answerWords (now (c .before .before .before .before .before .before .before .before .args .out)) (c .before .before .before .before .before .a10 .given .1) (c .before .before .put-refusal .ensures .0) (c .before .before .put-refusal .ensures .1)
+returns-11 c = in-case answerCode answerWords (now (c .before .before .before .before .before .before .before .before .args .out)) (c .before .before .before .before .before .a10 .given .1) (c .before .before .put-header9 .ensures .0) (c .before .before .put-header9 .ensures .1)
+
+same-length-12 : tie.Need-same-length-12
+same-length-12 c = search needs
+
+returns-12 : tie.Need-returns-12
+returns-12 c = in-case answerCode answerWords (now (c .before .before .before .before .before .before .before .before .args .out)) (c .before .before .before .before .before .a11 .given .1) (c .before .before .put-header10 .ensures .0) (c .before .before .put-header10 .ensures .1)
+
+same-length-13 : tie.Need-same-length-13
+same-length-13 c = search needs
+
+returns-13 : tie.Need-returns-13
+returns-13 c = in-case answerCode answerWords (now (c .before .before .before .before .before .before .before .before .args .out)) (c .before .before .before .before .before .a12 .given .1) (c .before .before .put-refusal .ensures .0) (c .before .before .put-refusal .ensures .1)
 
 pub put-answer-spec : {M : Type 1} → statement M
 put-answer-spec =
@@ -151,18 +175,22 @@ put-answer-spec =
     enum-known-a-4
     put-tests-requires
     enum-known-a-5
+    put-fit-requires
+    enum-known-a-6
     put-header-requires-4
     enum-told
     put-header-requires-5
-    enum-known-a-6
-    put-header-requires-6
     enum-known-a-7
-    put-header-requires-7
+    put-header-requires-6
     enum-known-a-8
-    put-header-requires-8
+    put-header-requires-7
     enum-known-a-9
-    put-header-requires-9
+    put-header-requires-8
     enum-known-a-10
+    put-header-requires-9
+    enum-known-a-11
+    put-header-requires-10
+    enum-known-a-12
     put-refusal-requires
     same-length
     returns
@@ -185,4 +213,8 @@ put-answer-spec =
     same-length-10
     returns-10
     same-length-11
-    returns-11)
+    returns-11
+    same-length-12
+    returns-12
+    same-length-13
+    returns-13)

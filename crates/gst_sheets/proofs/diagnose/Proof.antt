@@ -7,9 +7,9 @@ use denote.Ref.{now}
 use lib.Ieee.{Float}
 use lib.Seq.{length-take-le}
 use Rattle.model_words.specs.Words.{numbersOf}
-use Rattle.model_words.proofs.Sizes.{length-model}
+use Rattle.model_words.proofs.Sizes.{length-model, gates-most}
 use Rattle.diagnostics.specs.Diagnostics.{likelihoodOf}
-use Rattle.gst_sheets.proofs.Shown.{gates-most, loaded-again, loaded-fits, loaded-length}
+use Rattle.gst_sheets.proofs.Shown.{loaded-again, loaded-fits, loaded-length}
 use borrow.Author.Needs.{needs}
 use Rattle.gst_sheets.proofs.diagnose.Statement.{statement}
 use Rattle.gst_sheets.proofs.diagnose.Tie as tie

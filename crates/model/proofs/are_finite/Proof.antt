@@ -1,82 +1,51 @@
 -- `model::are_finite` meets its contract. Assumes nothing.
-use Prim.Native.Nat.{_≤_, _-_, _<_}
-use mathlib.Core.Path.{_≡_, sym, ap, _∙_}
+use Prim.Native.Nat.{_-_, _*_, _/_}
+use mathlib.Core.Path.{sym, _∙_}
 use native.Mathlib.Omega.{arith}
 use denote.Ref.{now}
-use lib.ListN.{drop}
 use borrow.Author.Tests.{not-true, not-false}
-use Rattle.numbers.specs.Number.{number, finite}
-use Rattle.numbers.specs.Slice.{allFinite, numbersAt}
-use Rattle.numbers.proofs.Finite.{finite-stop, finite-on, finite-end}
-use Rattle.numbers.proofs.Slices.{length-numbers}
-use Rattle.model.proofs.Tests.{number-at}
+use Rattle.model.proofs.Fours.{run-front, run-on}
 use borrow.Author.Needs.{needs}
 use Rattle.model.proofs.are_finite.Statement.{statement}
 use Rattle.model.proofs.are_finite.Tie as tie
 
-abbrev Inv-loop : tie.InvT-loop
-Inv-loop card from n i₀ i = (i ≤ n) × (allFinite (numbersAt card from n) ≡ allFinite (drop i (numbersAt card from n)))
+mul-done : tie.Need-mul-done
+mul-done c = search needs
 
-abbrev μ-loop : tie.MeasureT-loop
-μ-loop card from n i₀ i = n - i
+fours-finite-requires : tie.Need-fours-finite-requires
+fours-finite-requires c κs = search needs
 
-loop-holds : tie.Need-loop-holds Inv-loop μ-loop
-loop-holds c = search needs
-
-add-word-at : tie.Need-add-word-at Inv-loop μ-loop
-add-word-at c = search needs
-
-word-at-requires : tie.Need-word-at-requires Inv-loop μ-loop
-word-at-requires c κs = search needs
-
-number-of-requires : tie.Need-number-of-requires Inv-loop μ-loop
-number-of-requires c κs = search needs
-
-is-finite-requires : tie.Need-is-finite-requires Inv-loop μ-loop
-is-finite-requires c κs = search needs
-
-returns : tie.Need-returns Inv-loop μ-loop
+returns : tie.Need-returns
 returns c =
-    let s = now (c .before .before .before .before .before .before .before .args .card) in
-    let f = c .before .before .before .before .before .before .before .args .from in
-    let n = c .before .before .before .before .before .before .before .args .n in
-    let i = c .before .before .before .before .before .loop .i in
-    let h : i < n = omega arith in
-    finite-stop (numbersAt s f n) i (omega (arith, length-numbers s f n)) (c .before .before .before .before .before .loop .inv .1) (ap finite (number-at s f n i h ∙ sym (c .before .before .number-of .ensures ∙ ap number (c .before .before .before .word-at .ensures))) ∙ sym (c .before .is-finite .ensures) ∙ not-true _ (c .if1 .taken))
-
-add-i : tie.Need-add-i Inv-loop μ-loop
-add-i c = search needs
-
-loop-less : tie.Need-loop-less Inv-loop μ-loop
-loop-less c = search needs
-
-loop-again : tie.Need-loop-again Inv-loop μ-loop
-loop-again c =
-    let s = now (c .before .before .before .before .before .before .before .args .card) in
-    let f = c .before .before .before .before .before .before .before .args .from in
-    let n = c .before .before .before .before .before .before .before .args .n in
-    let i = c .before .before .before .before .before .loop .i in
-    let h : i < n = omega arith in
-    (search needs, finite-on (numbersAt s f n) i (omega (arith, length-numbers s f n)) (c .before .before .before .before .before .loop .inv .1) (ap finite (number-at s f n i h ∙ sym (c .before .before .number-of .ensures ∙ ap number (c .before .before .before .word-at .ensures))) ∙ sym (c .before .is-finite .ensures) ∙ not-false _ (c .if1 .left)))
-
-returns-2 : tie.Need-returns-2 Inv-loop μ-loop
-returns-2 c =
     let s = now (c .before .before .before .args .card) in
-    finite-end (numbersAt s (c .before .before .before .args .from) (c .before .before .before .args .n)) (c .before .loop .i) (omega (arith, length-numbers s (c .before .before .before .args .from) (c .before .before .before .args .n))) (c .before .loop .inv .1)
+    let p = c .before .before .before .args .from in
+    let n = c .before .before .before .args .n in
+    run-front s p (n / 4 * 4) (n - n / 4 * 4) n (omega arith) (sym (c .before .fours-finite .ensures) ∙ not-true _ (c .if1 .taken))
+
+add-each-finite : tie.Need-add-each-finite
+add-each-finite c = search needs
+
+sub-each-finite : tie.Need-sub-each-finite
+sub-each-finite c = search needs
+
+each-finite-requires : tie.Need-each-finite-requires
+each-finite-requires c κs = search needs
+
+returns-2 : tie.Need-returns-2
+returns-2 c =
+    let s = now (c .before .before .before .before .args .card) in
+    let p = c .before .before .before .before .args .from in
+    let n = c .before .before .before .before .args .n in
+    run-on s p (n / 4 * 4) (n - n / 4 * 4) n _ (omega arith) (sym (c .before .before .fours-finite .ensures) ∙ not-false _ (c .before .if1 .left)) (c .each-finite .ensures)
 
 pub are-finite-spec : {M : Type 1} → statement M
 are-finite-spec =
     tie.close
     (tie.spec
-    Inv-loop
-    μ-loop
-    loop-holds
-    add-word-at
-    word-at-requires
-    number-of-requires
-    is-finite-requires
+    mul-done
+    fours-finite-requires
     returns
-    add-i
-    loop-less
-    loop-again
+    add-each-finite
+    sub-each-finite
+    each-finite-requires
     returns-2)

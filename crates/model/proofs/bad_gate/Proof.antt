@@ -7,14 +7,14 @@ use denote.Ref.{now}
 use Rattle.numbers.specs.Slice.{allFinite, numbersAt}
 use Rattle.card_places.proofs.Within.{gate-in}
 use Rattle.card_parts.specs.Model.{gateOf}
-use Rattle.model.specs.Checked.{anyOf, badEffect}
+use Rattle.model.specs.Checked.{anyOf, badEffect, onCard}
 use Rattle.model.proofs.Tests.{any-none, any-more, any-end}
 use borrow.Author.Needs.{needs}
 use Rattle.model.proofs.bad_gate.Statement.{statement}
 use Rattle.model.proofs.bad_gate.Tie as tie
 
 abbrev Inv-loop : tie.InvT-loop
-Inv-loop card h count d m bad₀ g₀ bad g = (g ≤ count) × (bad ≡ anyOf (badEffect card h) g (λ g. not (allFinite (gateOf card h g))))
+Inv-loop card h count d m bad₀ g₀ bad g = (g ≤ count) × (bad ≡ anyOf (badEffect (onCard card h)) g (λ g. not (allFinite (gateOf card h g))))
 
 abbrev μ-loop : tie.MeasureT-loop
 μ-loop card h count d m bad₀ g₀ bad g = count - g

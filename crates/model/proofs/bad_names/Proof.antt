@@ -3,6 +3,7 @@ use Prim.Native.Nat.{_≤_, _-_}
 use mathlib.Core.Path.{_≡_, refl}
 use mathlib.Core.Bool.{false}
 use native.Mathlib.Omega.{arith}
+use Rattle.card_parts.specs.Model.{nameOf}
 use Rattle.model.specs.Checked.{anyOf, badName}
 use Rattle.model.proofs.Tests.{any-none, any-more, any-end}
 use borrow.Author.Needs.{needs}
@@ -10,7 +11,7 @@ use Rattle.model.proofs.bad_names.Statement.{statement}
 use Rattle.model.proofs.bad_names.Tie as tie
 
 abbrev Inv-loop : tie.InvT-loop
-Inv-loop card h count bad₀ g₀ bad g = (g ≤ count) × (bad ≡ anyOf false g (badName card h))
+Inv-loop card h count bad₀ g₀ bad g = (g ≤ count) × (bad ≡ anyOf false g (badName (nameOf card h)))
 
 abbrev μ-loop : tie.MeasureT-loop
 μ-loop card h count bad₀ g₀ bad g = count - g

@@ -7,13 +7,15 @@ use Prim.Native.Nat.{ℕ}
 use Rattle.numbers.specs.Slice.{allFinite, numbersAt}
 use Rattle.card_places.proofs.Within.{state-in}
 use Rattle.card_parts.specs.Model.{stateOf}
+use Rattle.model.specs.Checked.{onCard, checkedOf}
 use Rattle.model.proofs.Tests.{no-dimension, bad-state, no-effects, bad-number, bad-names, all-good}
 use borrow.Author.Needs.{needs}
 use Rattle.model.proofs.check_model.Statement.{statement}
 use Rattle.model.proofs.check_model.Tie as tie
 
 returns : tie.Need-returns
-returns c = no-dimension _ _ (c .if1 .taken)
+unfolding checkedOf
+returns c = no-dimension (onCard (now (c .before .before .args .card)) (c .before .before .args .h)) (c .if1 .taken)
 
 model-at-requires : tie.Need-model-at-requires
 model-at-requires c κs = search needs
@@ -22,45 +24,45 @@ are-finite-requires : tie.Need-are-finite-requires
 are-finite-requires c κs = omega (arith, c .model-at .ensures, state-in (now (c .before .before .before .args .card)) (c .before .before .before .args .h) (c .before .before .before .pre .0) (c .before .before .before .pre .1))
 
 returns-2 : tie.Need-returns-2
-unfolding stateOf
+unfolding stateOf checkedOf
 returns-2 c =
     let s = now (c .before .before .before .before .before .args .card) in
     let st = sym (c .before .are-finite .ensures ∙ ap (λ (p : ℕ). allFinite (numbersAt s p (c .before .before .before .before .before .args .h .dimension))) (c .before .before .model-at .ensures .0)) in
-    bad-state _ _ (c .before .before .before .if1 .left) (st ∙ not-true _ (c .if2 .taken))
+    bad-state (onCard s (c .before .before .before .before .before .args .h)) (c .before .before .before .if1 .left) (st ∙ not-true _ (c .if2 .taken))
 
 returns-3 : tie.Need-returns-3
-unfolding stateOf
+unfolding stateOf checkedOf
 returns-3 c =
     let s = now (c .before .before .before .before .before .before .args .card) in
     let st = sym (c .before .before .are-finite .ensures ∙ ap (λ (p : ℕ). allFinite (numbersAt s p (c .before .before .before .before .before .before .args .h .dimension))) (c .before .before .before .model-at .ensures .0)) in
-    no-effects _ _ (c .before .before .before .before .if1 .left) (st ∙ not-false _ (c .before .if2 .left)) (c .if3 .taken)
+    no-effects (onCard s (c .before .before .before .before .before .before .args .h)) (c .before .before .before .before .if1 .left) (st ∙ not-false _ (c .before .if2 .left)) (c .if3 .taken)
 
 bad-gate-requires : tie.Need-bad-gate-requires
 bad-gate-requires c κs = search needs
 
 returns-4 : tie.Need-returns-4
-unfolding stateOf
+unfolding stateOf checkedOf
 returns-4 c =
     let s = now (c .before .before .before .before .before .before .before .before .args .card) in
     let st = sym (c .before .before .before .before .are-finite .ensures ∙ ap (λ (p : ℕ). allFinite (numbersAt s p (c .before .before .before .before .before .before .before .before .args .h .dimension))) (c .before .before .before .before .before .model-at .ensures .0)) in
-    bad-number _ _ (c .before .before .before .before .before .before .if1 .left) (st ∙ not-false _ (c .before .before .before .if2 .left)) (c .before .before .if3 .left) (sym (c .before .bad-gate .ensures) ∙ c .if4 .taken)
+    bad-number (onCard s (c .before .before .before .before .before .before .before .before .args .h)) (c .before .before .before .before .before .before .if1 .left) (st ∙ not-false _ (c .before .before .before .if2 .left)) (c .before .before .if3 .left) (sym (c .before .bad-gate .ensures) ∙ c .if4 .taken)
 
 bad-names-requires : tie.Need-bad-names-requires
 bad-names-requires c κs = search needs
 
 returns-5 : tie.Need-returns-5
-unfolding stateOf
+unfolding stateOf checkedOf
 returns-5 c =
     let s = now (c .before .before .before .before .before .before .before .before .before .before .args .card) in
     let st = sym (c .before .before .before .before .before .before .are-finite .ensures ∙ ap (λ (p : ℕ). allFinite (numbersAt s p (c .before .before .before .before .before .before .before .before .before .before .args .h .dimension))) (c .before .before .before .before .before .before .before .model-at .ensures .0)) in
-    bad-names _ _ (c .before .before .before .before .before .before .before .before .if1 .left) (st ∙ not-false _ (c .before .before .before .before .before .if2 .left)) (c .before .before .before .before .if3 .left) (sym (c .before .before .before .bad-gate .ensures) ∙ c .before .before .if4 .left) (sym (c .before .bad-names .ensures) ∙ c .if5 .taken)
+    bad-names (onCard s (c .before .before .before .before .before .before .before .before .before .before .args .h)) (c .before .before .before .before .before .before .before .before .if1 .left) (st ∙ not-false _ (c .before .before .before .before .before .if2 .left)) (c .before .before .before .before .if3 .left) (sym (c .before .before .before .bad-gate .ensures) ∙ c .before .before .if4 .left) (sym (c .before .bad-names .ensures) ∙ c .if5 .taken)
 
 returns-6 : tie.Need-returns-6
-unfolding stateOf
+unfolding stateOf checkedOf
 returns-6 c =
     let s = now (c .before .before .before .before .before .before .before .before .before .before .args .card) in
     let st = sym (c .before .before .before .before .before .before .are-finite .ensures ∙ ap (λ (p : ℕ). allFinite (numbersAt s p (c .before .before .before .before .before .before .before .before .before .before .args .h .dimension))) (c .before .before .before .before .before .before .before .model-at .ensures .0)) in
-    all-good _ _ (c .before .before .before .before .before .before .before .before .if1 .left) (st ∙ not-false _ (c .before .before .before .before .before .if2 .left)) (c .before .before .before .before .if3 .left) (sym (c .before .before .before .bad-gate .ensures) ∙ c .before .before .if4 .left) (sym (c .before .bad-names .ensures) ∙ c .if5 .left)
+    all-good (onCard s (c .before .before .before .before .before .before .before .before .before .before .args .h)) (c .before .before .before .before .before .before .before .before .if1 .left) (st ∙ not-false _ (c .before .before .before .before .before .if2 .left)) (c .before .before .before .before .if3 .left) (sym (c .before .before .before .bad-gate .ensures) ∙ c .before .before .if4 .left) (sym (c .before .bad-names .ensures) ∙ c .if5 .left)
 
 pub check-model-spec : {M : Type 1} → statement M
 check-model-spec =

@@ -7,8 +7,6 @@ use Rattle.model_words.proofs.Sizes.{model-loaded}
 use borrow.Author.Needs.{needs}
 use Rattle.model_words.proofs.load_model.Statement.{statement}
 use Rattle.model_words.proofs.load_model.Tie as tie
-use Rattle.model_words.proofs.load_gates.Reads as load-gates-reads
-use Rattle.model_words.proofs.vector_numbers.Reads as vector-numbers-reads
 
 vector-numbers-requires : tie.Need-vector-numbers-requires
 vector-numbers-requires c κs = search needs

@@ -55,6 +55,12 @@ print-tests-requires c κs = search needs
 enum-known-answer-6 : tie.Need-enum-known-answer-6
 enum-known-answer-6 c = search needs
 
+print-fit-requires : tie.Need-print-fit-requires
+print-fit-requires c κs = search needs
+
+enum-known-answer-7 : tie.Need-enum-known-answer-7
+enum-known-answer-7 c = search needs
+
 slice-aggregate-print-list : tie.Need-slice-aggregate-print-list
 slice-aggregate-print-list c = search needs
 
@@ -67,8 +73,8 @@ enum-told c = search needs
 print-diagnostics-requires : tie.Need-print-diagnostics-requires
 print-diagnostics-requires c κs = search needs
 
-enum-known-answer-7 : tie.Need-enum-known-answer-7
-enum-known-answer-7 c = search needs
+enum-known-answer-8 : tie.Need-enum-known-answer-8
+enum-known-answer-8 c = search needs
 
 slice-aggregate-print-square-2 : tie.Need-slice-aggregate-print-square-2
 slice-aggregate-print-square-2 c = search needs
@@ -76,8 +82,8 @@ slice-aggregate-print-square-2 c = search needs
 print-square-requires-2 : tie.Need-print-square-requires-2
 print-square-requires-2 c κs = search needs
 
-enum-known-answer-8 : tie.Need-enum-known-answer-8
-enum-known-answer-8 c = search needs
+enum-known-answer-9 : tie.Need-enum-known-answer-9
+enum-known-answer-9 c = search needs
 
 slice-aggregate-print-list-2 : tie.Need-slice-aggregate-print-list-2
 slice-aggregate-print-list-2 c = search needs
@@ -85,8 +91,8 @@ slice-aggregate-print-list-2 c = search needs
 print-list-requires-2 : tie.Need-print-list-requires-2
 print-list-requires-2 c κs = search needs
 
-enum-known-answer-9 : tie.Need-enum-known-answer-9
-enum-known-answer-9 c = search needs
+enum-known-answer-10 : tie.Need-enum-known-answer-10
+enum-known-answer-10 c = search needs
 
 slice-aggregate-print-list-3 : tie.Need-slice-aggregate-print-list-3
 slice-aggregate-print-list-3 c = search needs
@@ -94,14 +100,23 @@ slice-aggregate-print-list-3 c = search needs
 print-list-requires-3 : tie.Need-print-list-requires-3
 print-list-requires-3 c κs = search needs
 
-enum-known-answer-10 : tie.Need-enum-known-answer-10
-enum-known-answer-10 c = search needs
+enum-known-answer-11 : tie.Need-enum-known-answer-11
+enum-known-answer-11 c = search needs
 
 slice-aggregate-print-matrix-3 : tie.Need-slice-aggregate-print-matrix-3
 slice-aggregate-print-matrix-3 c = search needs
 
 print-matrix-requires-3 : tie.Need-print-matrix-requires-3
 print-matrix-requires-3 c κs = search needs
+
+enum-known-answer-12 : tie.Need-enum-known-answer-12
+enum-known-answer-12 c = search needs
+
+slice-aggregate-print-list-4 : tie.Need-slice-aggregate-print-list-4
+slice-aggregate-print-list-4 c = search needs
+
+print-list-requires-4 : tie.Need-print-list-requires-4
+print-list-requires-4 c κs = search needs
 
 returns : tie.Need-returns
 returns c = in-case (length (now (c .before .before .before .before .before .args .result))) (c .before .before .answer .given .1) (c .print-refusal .ensures)
@@ -119,22 +134,28 @@ returns-5 : tie.Need-returns-5
 returns-5 c = in-case (length (now (c .before .before .before .before .before .args .result))) (c .before .before .answer5 .given .1) (c .print-tests .ensures)
 
 returns-6 : tie.Need-returns-6
-returns-6 c = in-case (length (now (c .before .before .before .before .before .before .args .result))) (c .before .before .before .answer6 .given .1) (c .print-list .ensures)
+returns-6 c = in-case (length (now (c .before .before .before .before .before .args .result))) (c .before .before .answer6 .given .1) (c .print-fit .ensures)
 
 returns-7 : tie.Need-returns-7
-returns-7 c = in-case (length (now (c .before .before .before .before .args .result))) (c .before .enum-told .given .1) (c .print-diagnostics .ensures)
+returns-7 c = in-case (length (now (c .before .before .before .before .before .before .args .result))) (c .before .before .before .answer7 .given .1) (c .print-list .ensures)
 
 returns-8 : tie.Need-returns-8
-returns-8 c = in-case (length (now (c .before .before .before .before .before .before .args .result))) (c .before .before .before .answer7 .given .1) (c .print-square2 .ensures)
+returns-8 c = in-case (length (now (c .before .before .before .before .args .result))) (c .before .enum-told .given .1) (c .print-diagnostics .ensures)
 
 returns-9 : tie.Need-returns-9
-returns-9 c = in-case (length (now (c .before .before .before .before .before .before .args .result))) (c .before .before .before .answer8 .given .1) (c .print-list2 .ensures)
+returns-9 c = in-case (length (now (c .before .before .before .before .before .before .args .result))) (c .before .before .before .answer8 .given .1) (c .print-square2 .ensures)
 
 returns-10 : tie.Need-returns-10
-returns-10 c = in-case (length (now (c .before .before .before .before .before .before .args .result))) (c .before .before .before .answer9 .given .1) (c .print-list3 .ensures)
+returns-10 c = in-case (length (now (c .before .before .before .before .before .before .args .result))) (c .before .before .before .answer9 .given .1) (c .print-list2 .ensures)
 
 returns-11 : tie.Need-returns-11
-returns-11 c = in-case (length (now (c .before .before .before .before .before .before .args .result))) (c .before .before .before .answer10 .given .1) (c .print-matrix3 .ensures)
+returns-11 c = in-case (length (now (c .before .before .before .before .before .before .args .result))) (c .before .before .before .answer10 .given .1) (c .print-list3 .ensures)
+
+returns-12 : tie.Need-returns-12
+returns-12 c = in-case (length (now (c .before .before .before .before .before .before .args .result))) (c .before .before .before .answer11 .given .1) (c .print-matrix3 .ensures)
+
+returns-13 : tie.Need-returns-13
+returns-13 c = in-case (length (now (c .before .before .before .before .before .before .args .result))) (c .before .before .before .answer12 .given .1) (c .print-list4 .ensures)
 
 pub print-sheet-spec : {M : Type 1} → statement M
 print-sheet-spec =
@@ -154,22 +175,27 @@ print-sheet-spec =
     enum-known-answer-5
     print-tests-requires
     enum-known-answer-6
+    print-fit-requires
+    enum-known-answer-7
     slice-aggregate-print-list
     print-list-requires
     enum-told
     print-diagnostics-requires
-    enum-known-answer-7
+    enum-known-answer-8
     slice-aggregate-print-square-2
     print-square-requires-2
-    enum-known-answer-8
+    enum-known-answer-9
     slice-aggregate-print-list-2
     print-list-requires-2
-    enum-known-answer-9
+    enum-known-answer-10
     slice-aggregate-print-list-3
     print-list-requires-3
-    enum-known-answer-10
+    enum-known-answer-11
     slice-aggregate-print-matrix-3
     print-matrix-requires-3
+    enum-known-answer-12
+    slice-aggregate-print-list-4
+    print-list-requires-4
     returns
     returns-2
     returns-3
@@ -180,4 +206,6 @@ print-sheet-spec =
     returns-8
     returns-9
     returns-10
-    returns-11)
+    returns-11
+    returns-12
+    returns-13)

@@ -1,4 +1,5 @@
 -- `tomography::run_kind` meets its contract. Assumes nothing.
+use Rattle.tomography.proofs.Lengths.{model-kind}
 use Rattle.tomography.specs.Sheet.{kindSheet}
 use Rattle.outcome.proofs.Outcomes.{same-outcome}
 use Rattle.card.proofs.Accepted.{accepted}
@@ -66,7 +67,7 @@ unfolding kindSheet
 returns-4 c = same-outcome (no _ (ne-eqb _ _ (c .before .before .before .before .if1 .left)) (no _ (ne-eqb _ _ (c .before .before .before .if2 .left)) (no _ (ne-eqb _ _ (c .before .before .if3 .left)) (yes _ (eq-eqb _ _ (c .before .if4 .taken)))))) (c .physical-sheet .ensures _)
 
 run-model-requires : tie.Need-run-model-requires
-run-model-requires c κs = search needs
+run-model-requires c κs = (c .before .before .before .before .before .before .before .before .before .pre .0, model-kind (c .before .before .before .before .before .before .before .before .before .args .h) (accepted (now (c .before .before .before .before .before .before .before .before .before .args .card)) (c .before .before .before .before .before .before .before .before .before .args .h) (c .before .before .before .before .before .before .before .before .before .pre .0) .shaped .limits .least) (c .before .before .before .before .before .if1 .left) (c .before .before .before .before .if2 .left) (c .before .before .before .if3 .left) (c .before .before .if4 .left), c .before .before .before .before .before .before .before .before .before .pre .1, c .before .before .before .before .before .before .before .before .before .pre .2)
 
 same-length-7 : tie.Need-same-length-7
 same-length-7 c = search needs

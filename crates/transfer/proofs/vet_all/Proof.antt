@@ -1,53 +1,21 @@
 -- `transfer::vet_all` meets its contract. Assumes nothing.
-use denote.Ref.{now}
-use Prim.Native.Nat.{_≤_, _-_}
-use native.Mathlib.Omega.{arith}
-use Rattle.transfer.proofs.Vectors.{Found, found-none, found-more, found-all}
+use Prim.Native.Nat.{ℕ, _*_}
+use mathlib.Core.Path.{_≡_, ap}
 use borrow.Author.Needs.{needs}
 use Rattle.transfer.proofs.vet_all.Statement.{statement}
 use Rattle.transfer.proofs.vet_all.Tie as tie
 
-abbrev Inv-loop : tie.InvT-loop
-Inv-loop vectors tolerance p count found₀ k₀ found k = (k ≤ count) × Found tolerance vectors p k found
+vet-each-requires : tie.Need-vet-each-requires
+vet-each-requires c κs = let e : c .before .before .args .p * c .before .before .args .p ≡ 256 = ap (λ (m : ℕ). m * m) (c .if1 .taken) in search needs
 
-abbrev μ-loop : tie.MeasureT-loop
-μ-loop vectors tolerance p count found₀ k₀ found k = count - k
+returns : tie.Need-returns
+returns c = rw (c .before .if1 .taken) (c .vet-each .ensures)
 
-mul-count : tie.Need-mul-count Inv-loop μ-loop
-mul-count c = search needs
+vet-each-requires-2 : tie.Need-vet-each-requires-2
+vet-each-requires-2 c κs = search needs
 
-loop-holds : tie.Need-loop-holds Inv-loop μ-loop
-loop-holds c = let s = c .before in (search needs, found-none (s .args .tolerance) (now (s .args .vectors)) (s .args .p))
-
-vet-vector-requires : tie.Need-vet-vector-requires Inv-loop μ-loop
-vet-vector-requires c κs = search needs
-
-first-of-requires : tie.Need-first-of-requires Inv-loop μ-loop
-first-of-requires c κs = search needs
-
-add-k : tie.Need-add-k Inv-loop μ-loop
-add-k c = search needs
-
-loop-less : tie.Need-loop-less Inv-loop μ-loop
-loop-less c = search needs
-
-loop-again : tie.Need-loop-again Inv-loop μ-loop
-loop-again c = let s = c .before .before .before .before .before in (search needs, found-more (s .args .tolerance) (now (s .args .vectors)) (s .args .p) _ _ _ _ (c .before .before .before .loop .inv .1) (c .before .vet-vector .ensures) (c .first-of .ensures))
-
-returns : tie.Need-returns Inv-loop μ-loop
-returns c = let s = c .before .before .before in found-all (s .args .tolerance) (now (s .args .vectors)) (s .args .p) _ _ (omega arith) (c .before .loop .inv .1)
+returns-2 : tie.Need-returns-2
+returns-2 c = search needs
 
 pub vet-all-spec : {M : Type 1} → statement M
-vet-all-spec =
-    tie.close
-    (tie.spec
-    Inv-loop
-    μ-loop
-    mul-count
-    loop-holds
-    vet-vector-requires
-    first-of-requires
-    add-k
-    loop-less
-    loop-again
-    returns)
+vet-all-spec = tie.close (tie.spec vet-each-requires returns vet-each-requires-2 returns-2)

@@ -1,0 +1,49 @@
+-- `fit_sheets::request_sheet` meets its contract. Assumes nothing.
+use mathlib.Core.Path.{sym, ap, _∙_}
+use denote.Ref.{now}
+use Rattle.refusal.specs.declared.Verdict.{Verdict}
+use Rattle.refusal.specs.Verdicts.{after}
+use Rattle.descent.specs.Fit.{fitOf}
+use Rattle.fit.specs.Outcome.{jobOf}
+use Rattle.fit.proofs.Whole.{controls-in}
+use Rattle.outcome.specs.Outcome.{refused}
+use Rattle.outcome.proofs.Outcomes.{stays, same-outcome}
+use Rattle.fit_sheets.specs.Sheets.{outcomeSheet, requestSheet}
+use borrow.Author.Needs.{needs}
+use Rattle.fit_sheets.proofs.request_sheet.Statement.{statement}
+use Rattle.fit_sheets.proofs.request_sheet.Tie as tie
+
+check-request-requires : tie.Need-check-request-requires
+check-request-requires c κs = (c .before .before .pre .0 .shaped, controls-in (now (c .before .before .args .card)) (c .before .before .args .h) (c .before .before .pre .0 .shaped) (c .before .before .pre .0 .kind))
+
+enum-known-found : tie.Need-enum-known-found
+enum-known-found c = search needs
+
+enum-told : tie.Need-enum-told
+enum-told c = search needs
+
+run-fit-requires : tie.Need-run-fit-requires
+run-fit-requires c κs = (c .before .before .before .before .before .before .pre .0, sym (c .before .before .before .check-request .ensures) ∙ c .before .enum-told .given .1, c .before .before .before .before .before .before .pre .1)
+
+returns : tie.Need-returns
+unfolding requestSheet
+returns c = stays _ (ap (λ (v : Verdict). after v refused (outcomeSheet (now (c .before .before .before .before .before .before .args .card)) (c .before .before .before .before .before .before .args .h) (fitOf (jobOf (now (c .before .before .before .before .before .before .args .card)) (c .before .before .before .before .before .before .args .h))))) (sym (c .before .found .given .1) ∙ c .before .before .before .check-request .ensures))
+
+same-length : tie.Need-same-length
+same-length c = search needs
+
+returns-2 : tie.Need-returns-2
+unfolding requestSheet
+returns-2 c = same-outcome (ap (λ (v : Verdict). after v refused (outcomeSheet (now (c .before .before .before .before .before .before .before .before .before .args .card)) (c .before .before .before .before .before .before .before .before .before .args .h) (fitOf (jobOf (now (c .before .before .before .before .before .before .before .before .before .args .card)) (c .before .before .before .before .before .before .before .before .before .args .h))))) (sym (c .before .before .before .before .enum-told .given .1) ∙ c .before .before .before .before .before .before .check-request .ensures)) (c .before .before .run-fit .ensures)
+
+pub request-sheet-spec : {M : Type 1} → statement M
+request-sheet-spec =
+    tie.close
+    (tie.spec
+    check-request-requires
+    enum-known-found
+    enum-told
+    run-fit-requires
+    returns
+    same-length
+    returns-2)

@@ -1,0 +1,28 @@
+-- `library::probabilities` meets its contract. Assumes nothing.
+use Rattle.outcome.proofs.Outcomes.{blank-same}
+use denote.Ref.{now}
+use mathlib.Core.Path.{_∙_}
+use borrow.Author.Needs.{needs}
+use Rattle.library.proofs.probabilities.Statement.{statement}
+use Rattle.library.proofs.probabilities.Tie as tie
+
+sequence-outcome-requires : tie.Need-sequence-outcome-requires
+sequence-outcome-requires c κs = search needs
+
+clear-requires : tie.Need-clear-requires
+clear-requires c κs = search needs
+
+same-length : tie.Need-same-length
+same-length c = search needs
+
+same-length-2 : tie.Need-same-length-2
+same-length-2 c = search needs
+
+returns : tie.Need-returns
+returns c =
+    let ran = c .before .before .before .before .before .before .before .before .sequence-outcome in
+    record { gives = ran .ensures; blanked = c .before .before .clear .ensures ∙ blank-same (ran .last .1 .1 .1 .1 .1 .1 .0) (now (c .before .before .before .before .before .before .before .before .before .before .before .before .before .before .before .before .args .work)) (ran .kept .1 .1 .1 .1 .1 .1 .0) }
+
+pub probabilities-spec : {M : Type 1} → statement M
+probabilities-spec =
+    tie.close (tie.spec sequence-outcome-requires clear-requires same-length same-length-2 returns)
