@@ -1,14 +1,17 @@
 //! The port and the Rust on the same cards and calls, in one process: `bench [ROUNDS [KIND..]]`. KIND is 1 to 7, `probes`,
-//! `apply`, `choi`, `sqrt` or `ln`.
+//! `apply`, `choi`, `probabilities`, `sqrt`, `ln` or `growth`.
 //!
 //! A round runs a batch of each in turn, so that a slower or faster stretch of the machine meets all of them. The median
-//! over the rounds is printed.
+//! over the rounds is printed, in processor time.
+//!
+//! `bench list` prints the cards and calls with their numbers; `bench calls NUMBER SIDE COUNT` makes COUNT calls of one side
+//! (`port`, `alone`, `words` or `refused`) and prints nothing, for a count of instructions.
 
 mod cards;
 
 use reference::card::{self, Job};
 use reference::hooks::with_rotations;
-use reference::library::Call;
+use reference::library::{self, Call};
 use reference::ln::ln;
 use reference::port::{self, ANSWER_WORDS, RESULT_WORDS, WORK_WORDS};
 use reference::random::Rng;
@@ -19,13 +22,21 @@ use reference::tomography::{
 };
 use reference::BUILT;
 use std::hint::black_box;
-use std::time::Instant;
 
 /// A batch lasts about this long.
 const BATCH_NS: f64 = 1e6;
 /// Length of the arrays of `sqrt` and `ln`.
 const NUMBERS: usize = 4096;
-const USAGE: &str = "bench [ROUNDS [1..7 | probes | apply | choi | sqrt | ln]..]";
+/// All rounds of one row last about this long at most, if there are enough of them.
+const ROW_NS: f64 = 8e9;
+const LEAST_ROUNDS: usize = 9;
+const USAGE: &str = "bench [ROUNDS [1..7 | probes | apply | choi | probabilities | sqrt | ln | growth]..]
+bench list
+bench calls NUMBER port|alone|words|refused COUNT";
+const GROUPS: [&str; 14] =
+    ["1", "2", "3", "4", "5", "6", "7", "probes", "apply", "choi", "probabilities", "sqrt", "ln", "growth"];
+/// The sides in the order of a card's runs.
+const SIDES: [&str; 4] = ["port", "alone", "words", "refused"];
 /// What is timed, with the name that is printed.
 type Run = (&'static str, Box<dyn FnMut()>);
 
@@ -101,6 +112,16 @@ fn rust_call_alone(call: Call) -> Box<dyn FnMut()> {
                 black_box(black_box(&transfer).normalized_choi()).unwrap();
             })
         }
+        Call::Probabilities { d, effects, names, numbers, sequence } => {
+            let model = library::model_of_call(d, effects, &names, &numbers).unwrap();
+            // The names live as long as the process, so that the sequence can be made before the clock starts.
+            let names: Vec<&'static str> = sheet::gate_names(&model).into_iter().map(|name| &*name.leak()).collect();
+            let sequence: Vec<&str> = sequence.iter().map(|&gate| names[gate as usize]).collect();
+            let model = sheet::model_of(&model).unwrap();
+            Box::new(move || {
+                black_box(black_box(&model).probabilities(black_box(&sequence))).unwrap();
+            })
+        }
     }
 }
 
@@ -148,12 +169,35 @@ fn port_call(call: Call) -> Box<dyn FnMut()> {
     })
 }
 
+/// As Linux has it on 64-bit machines.
+#[repr(C)]
+struct Timespec {
+    seconds: i64,
+    nanoseconds: i64,
+}
+
+extern "C" {
+    fn clock_gettime(clock: i32, time: *mut Timespec) -> i32;
+}
+
+const CLOCK_THREAD_CPUTIME_ID: i32 = 3;
+
+/// The processor time of this thread. On a busy machine a clock on the wall also counts what others run in between, and
+/// more of it in a longer batch: that would favour the faster side.
+fn processor_ns() -> f64 {
+    let mut time = Timespec { seconds: 0, nanoseconds: 0 };
+    // SAFETY: the call writes one Timespec.
+    let failed = unsafe { clock_gettime(CLOCK_THREAD_CPUTIME_ID, &mut time) };
+    assert_eq!(failed, 0, "the thread has a clock");
+    time.seconds as f64 * 1e9 + time.nanoseconds as f64
+}
+
 fn batch_ns(f: &mut dyn FnMut(), calls: u64) -> f64 {
-    let start = Instant::now();
+    let start = processor_ns();
     for _ in 0..calls {
         f();
     }
-    start.elapsed().as_nanos() as f64
+    processor_ns() - start
 }
 
 /// How many calls make a batch. The first batch also warms up.
@@ -170,21 +214,23 @@ fn median(mut times: Vec<f64>) -> f64 {
     times[times.len() / 2]
 }
 
-/// The median time of a call of each, in ns.
-fn medians(runs: &mut [Run], rounds: usize) -> Vec<f64> {
+/// The median time of a call of each, in ns, and over how many rounds.
+fn medians(runs: &mut [Run], rounds: usize) -> (Vec<f64>, usize) {
     let calls: Vec<u64> = runs.iter_mut().map(|(_, f)| calls_in_a_batch(f)).collect();
+    let round: f64 = runs.iter_mut().zip(&calls).map(|((_, f), &calls)| batch_ns(f, calls)).sum();
+    let rounds = rounds.min(((ROW_NS / round) as usize).max(LEAST_ROUNDS));
     let mut times = vec![Vec::with_capacity(rounds); runs.len()];
     for _ in 0..rounds {
         for (k, (_, f)) in runs.iter_mut().enumerate() {
             times[k].push(batch_ns(f, calls[k]) / calls[k] as f64);
         }
     }
-    times.into_iter().map(median).collect()
+    (times.into_iter().map(median).collect(), rounds)
 }
 
 /// Times the runs, the port's first, and prints how often the port's time goes into that of the next two.
-fn report(title: String, mut runs: Vec<Run>, rounds: usize) {
-    let medians = medians(&mut runs, rounds);
+fn report(title: &str, mut runs: Vec<Run>, rounds: usize) {
+    let (medians, rounds) = medians(&mut runs, rounds);
     println!("{title} ({rounds} rounds, median ns a call)");
     for ((label, _), ns) in runs.iter().zip(&medians) {
         println!("  {label:36} {ns:12.1}");
@@ -193,14 +239,15 @@ fn report(title: String, mut runs: Vec<Run>, rounds: usize) {
     println!("  Rust to words / port                 {:12.2}", medians[2] / medians[0]);
 }
 
-fn card(name: &str, kind: u8, words: &[u64], rounds: usize) {
+/// A card's or a call's runs: the port, the Rust's function alone, the Rust to words, and what the port's call costs at least.
+fn card_runs(words: &[u64]) -> Vec<Run> {
     let bytes = card::bytes_of(words);
     let mut lent = Lent::new();
     lent.sheet(&bytes);
     lent.check(sheet::outcome(&bytes));
     let job = card::read(&bytes).expect("the card is accepted");
     let whole = bytes.clone();
-    let runs: Vec<Run> = vec![
+    vec![
         ("port, card to result", port_sheet(bytes)),
         ("Rust function alone, values parsed", rust_alone(job)),
         ("Rust, card to result words", Box::new(move || {
@@ -208,25 +255,84 @@ fn card(name: &str, kind: u8, words: &[u64], rounds: usize) {
         })),
         // An unknown kind is refused at once: what remains is the call and clearing work.
         ("port, refused at word 0", port_sheet(vec![0; 8])),
-    ];
-    report(format!("kind {kind}, {name}"), runs, rounds);
+    ]
 }
 
-fn library_call(name: &str, call: Call, rounds: usize) {
+fn call_runs(call: Call) -> Vec<Run> {
     let mut lent = Lent::new();
     lent.call(&call);
     lent.check(call.outcome());
     let (timed, whole) = (call.clone(), call.clone());
-    let title = format!("{}, {name}", call.entry().0);
-    let runs: Vec<Run> = vec![
+    vec![
         ("port, arguments to result", port_call(timed)),
         ("Rust function alone", rust_call_alone(call)),
         ("Rust, arguments to result words", Box::new(move || {
             black_box(black_box(&whole).outcome());
         })),
         ("port, refused by its qubits", port_call(Call::Probes { n: 0 })),
-    ];
-    report(title, runs, rounds);
+    ]
+}
+
+/// What is timed as a card or as a call.
+enum Timed {
+    Card(Vec<u64>),
+    Call(Call),
+}
+
+impl Timed {
+    fn runs(self) -> Vec<Run> {
+        match self {
+            Timed::Card(words) => card_runs(&words),
+            Timed::Call(call) => call_runs(call),
+        }
+    }
+}
+
+/// Group, title and card or call, of what the port has.
+fn all() -> Vec<(String, String, Timed)> {
+    let mut list = Vec::new();
+    for (name, words) in cards::cards() {
+        let kind = card::Head::of(words[0]).kind;
+        if BUILT.contains(&kind) {
+            list.push((kind.to_string(), format!("kind {kind}, {name}"), Timed::Card(words)));
+        }
+    }
+    for (name, call) in cards::calls() {
+        let entry = call.entry().0;
+        if port::ENTRIES.contains(&entry) {
+            list.push((entry.to_string(), format!("{entry}, {name}"), Timed::Call(call)));
+        }
+    }
+    list
+}
+
+/// How a fit's cost grows with its records, its coordinates and d, one of them at a time.
+fn growth(rounds: usize) {
+    println!("growth of a fit: us a call, the port's ns for one evaluation of one record");
+    println!("   d records coordinates evaluations       port      alone      words  alone/port  words/port  ns/record");
+    let records = [25, 50, 100, 200].map(|records| (4, records, 36));
+    let coordinates = [4, 9, 18, 36].map(|coordinates| (4, 100, coordinates));
+    let sizes = [2, 4, 8, 16].map(|d| (d, 50, 6));
+    for (d, records, coordinates) in records.into_iter().chain(coordinates).chain(sizes) {
+        let words = cards::fit(d, records, coordinates);
+        let evaluations = match sheet::outcome(&card::bytes_of(&words)) {
+            Outcome::Accepted { header, .. } => header[2],
+            Outcome::Refused(refusal) => panic!("refused: {refusal:?}"),
+        };
+        let mut runs = card_runs(&words);
+        runs.truncate(3);
+        let (medians, _) = medians(&mut runs, rounds);
+        let [port, alone, words] = [medians[0], medians[1], medians[2]];
+        println!(
+            "{d:4} {records:7} {coordinates:11} {evaluations:11} {:10.1} {:10.1} {:10.1} {:11.2} {:11.2} {:10.1}",
+            port / 1e3,
+            alone / 1e3,
+            words / 1e3,
+            alone / port,
+            words / port,
+            port / (evaluations * records as u64) as f64,
+        );
+    }
 }
 
 /// Positive numbers from 2^-64 to 2^64, every exponent and all digits alike.
@@ -264,7 +370,7 @@ fn leaf(name: &str, all: fn(&[u64], &mut [u64]) -> usize, held_to: fn(f64) -> f6
 
     let mut runs: Vec<Run> = vec![("port", port_loop(all))];
     runs.extend(others);
-    let medians = medians(&mut runs, rounds);
+    let (medians, rounds) = medians(&mut runs, rounds);
     println!("{name}, {NUMBERS} numbers ({rounds} rounds, median ns a number)");
     for ((label, _), ns) in runs.iter().zip(&medians) {
         println!("  {label:36} {:12.2}", ns / NUMBERS as f64);
@@ -274,25 +380,41 @@ fn leaf(name: &str, all: fn(&[u64], &mut [u64]) -> usize, held_to: fn(f64) -> f6
     }
 }
 
+/// One side alone, so that a tool can count its instructions.
+fn only_calls(arguments: &[String]) {
+    let [number, side, count] = arguments else { panic!("{USAGE}") };
+    let side = SIDES.iter().position(|name| name == side).expect(USAGE);
+    let (_, _, timed) = all().into_iter().nth(number.parse().expect(USAGE)).expect(USAGE);
+    let (_, f) = &mut timed.runs()[side];
+    for _ in 0..count.parse().expect(USAGE) {
+        f();
+    }
+}
+
 fn main() {
     let arguments: Vec<String> = std::env::args().skip(1).collect();
+    match arguments.first().map(String::as_str) {
+        Some("list") => {
+            for (number, (_, title, _)) in all().iter().enumerate() {
+                println!("{number} {title}");
+            }
+            return;
+        }
+        Some("calls") => return only_calls(&arguments[1..]),
+        _ => {}
+    }
     let rounds: usize = arguments.first().map_or(201, |rounds| rounds.parse().expect(USAGE));
     assert!(rounds > 0, "{USAGE}");
     let asked = arguments.get(1..).unwrap_or_default();
-    let known = ["1", "2", "3", "4", "5", "6", "7", "probes", "apply", "choi", "sqrt", "ln"];
-    assert!(asked.iter().all(|kind| known.contains(&kind.as_str())), "{USAGE}");
+    assert!(asked.iter().all(|kind| GROUPS.contains(&kind.as_str())), "{USAGE}");
     let wanted = |kind: &str| asked.is_empty() || asked.iter().any(|name| name == kind);
-    for (name, words) in cards::cards() {
-        let kind = card::Head::of(words[0]).kind;
-        if BUILT.contains(&kind) && wanted(&kind.to_string()) {
-            card(name, kind, &words, rounds);
+    for (group, title, timed) in all() {
+        if wanted(&group) {
+            report(&title, timed.runs(), rounds);
         }
     }
-    for (name, call) in cards::calls() {
-        let entry = call.entry().0;
-        if port::ENTRIES.contains(&entry) && wanted(entry) {
-            library_call(name, call, rounds);
-        }
+    if BUILT.contains(&5) && wanted("growth") {
+        growth(rounds);
     }
     if wanted("sqrt") {
         let others: Vec<Run> = vec![("f64::sqrt in a loop", rust_loop(f64::sqrt))];

@@ -1,8 +1,11 @@
 //! What happened in a card's run or in a call, so that a comparison can show that it met each case.
 
+mod fit;
+mod records;
+
 use crate::card::{self, Job, Model, Refusal};
 use crate::hooks::{Notes, Pivot, Turn};
-use crate::library::Call;
+use crate::library::{self, Call};
 use crate::sheet::{self, Outcome};
 
 /// Cases by name.
@@ -156,7 +159,7 @@ fn of_words(cases: &mut Cases, outcome: &Outcome, names: &[u64]) {
     }
 }
 
-/// Of a card of kind 3, 4 or 6; others have none.
+/// Of a card of kinds 3 to 7; others have none.
 pub fn of_card(bytes: &[u8], outcome: &Outcome, notes: &Notes) -> Cases {
     let mut cases = Vec::new();
     let pivots = &notes.pivots;
@@ -186,6 +189,8 @@ pub fn of_card(bytes: &[u8], outcome: &Outcome, notes: &Notes) -> Cases {
                 cases.push("a transform of zeros");
             }
         }
+        Ok(job @ Job::Fit { .. }) => fit::of_fit(&mut cases, outcome, &job, notes),
+        Ok(job @ Job::Diagnostics { .. }) => records::of_diagnostics(&mut cases, outcome, &job, notes),
         _ => {}
     }
     cases
@@ -213,5 +218,32 @@ pub fn of_call(call: &Call, outcome: &Outcome) -> Cases {
             cases.push("the largest finite numbers, accepted");
         }
     }
+    if matches!(call, Call::Probabilities { .. }) {
+        of_probabilities(&mut cases, call, outcome);
+    }
     cases
+}
+
+fn of_probabilities(cases: &mut Cases, call: &Call, outcome: &Outcome) {
+    let Call::Probabilities { d, effects, names, numbers, sequence } = call else { unreachable!("a call of probabilities") };
+    if let Ok(model) = library::model_of_call(*d, *effects, names, numbers) {
+        of_model(cases, &model);
+    }
+    let mut put = |case, met| {
+        if met {
+            cases.push(case);
+        }
+    };
+    let accepted = matches!(outcome, Outcome::Accepted { .. });
+    let absent = sequence.iter().filter(|&&index| index >= names.len() as u64).count();
+    put("an empty sequence", accepted && sequence.is_empty());
+    put("a sequence of 64", accepted && sequence.len() == 64);
+    put("a sequence above 64", refused_as(outcome, 15) && sequence.len() > 64);
+    put("d above 16", refused_as(outcome, 15) && *d > 16);
+    put("effects above 16", refused_as(outcome, 15) && *effects > 16);
+    put("names above 8", refused_as(outcome, 15) && names.len() > 8);
+    put("an absent gate after others", refused_as(outcome, 7) && sequence[0] < names.len() as u64);
+    put("two absent gates", refused_as(outcome, 7) && absent > 1);
+    put("a fault of the model beside an absent gate", !refused_as(outcome, 7) && absent > 0);
+    put("a wrong length beside numbers that are not finite", refused_as(outcome, 2) && any_bad(numbers));
 }

@@ -9,7 +9,7 @@ thread_local! {
     static ROTATIONS: Cell<Option<usize>> = const { Cell::new(None) };
     static EVALUATIONS: Cell<u64> = const { Cell::new(0) };
     static WATCHED: Cell<bool> = const { Cell::new(false) };
-    static NOTES: RefCell<Notes> = const { RefCell::new(Notes { pivots: Vec::new(), turns: Vec::new(), eigenvalues: Vec::new() }) };
+    static NOTES: RefCell<Notes> = RefCell::new(Notes::default());
 }
 
 /// What happened inside the Rust's functions.
@@ -19,6 +19,37 @@ pub struct Notes {
     pub turns: Vec<Turn>,
     /// Of the last `eig` that came to an end.
     pub eigenvalues: Vec<f64>,
+    pub fit: Vec<Event>,
+    pub likelihood: Likelihood,
+}
+
+/// What happens in a fit, in its order.
+#[derive(Clone, Copy, Debug)]
+pub enum Event {
+    /// A gradient begins.
+    Gradient,
+    /// The objectives of one coordinate's probes; none where the probabilities failed.
+    Probes { above: Option<f64>, below: Option<f64> },
+    /// The norm of a gradient, before it is tested at a point where steps are left.
+    Norm(f64),
+    /// A trial's objective beside the present one; none where its probabilities failed.
+    Trial { objective: Option<f64>, present: f64 },
+}
+
+/// What evaluations of the likelihood met, of all records.
+#[derive(Clone, Copy, Debug, Default)]
+pub struct Likelihood {
+    /// A number beside its limit: one float inside, at it, one float outside. The limits are minus the tolerance, 1 plus the
+    /// tolerance, and the tolerance for the distance of the sum from 1.
+    pub low: [bool; 3],
+    pub high: [bool; 3],
+    pub sum: [bool; 3],
+    pub not_finite: bool,
+    /// Below 0 or above 1.
+    pub outside: bool,
+    pub zero_total: bool,
+    /// A clamped probability of zero and a positive count.
+    pub zero_counted: bool,
 }
 
 /// A pivot as the Rust's elimination chose it, before it is tested.
@@ -137,5 +168,56 @@ fn keep_turn(a: &[Complex64], n: usize, best: f64, limit: f64) {
 pub(crate) fn note_eigenvalues(eigenvalues: &[f64]) {
     if cfg!(feature = "watch") && WATCHED.get() {
         NOTES.with_borrow_mut(|notes| notes.eigenvalues = eigenvalues.to_vec());
+    }
+}
+
+/// An event of a fit.
+#[inline(always)]
+pub(crate) fn note_fit(event: Event) {
+    if cfg!(feature = "watch") && WATCHED.get() {
+        NOTES.with_borrow_mut(|notes| notes.fit.push(event));
+    }
+}
+
+/// A record's probabilities, before they are tested.
+#[inline(always)]
+pub(crate) fn note_probabilities(probabilities: &[f64], tolerance: f64) {
+    if cfg!(feature = "watch") && WATCHED.get() {
+        keep_probabilities(probabilities, tolerance);
+    }
+}
+
+#[cold]
+fn keep_probabilities(probabilities: &[f64], tolerance: f64) {
+    let (least, most) = (-tolerance, 1.0 + tolerance);
+    let low = [least.next_up(), least, least.next_down()];
+    let high = [most.next_down(), most, most.next_up()];
+    let far = [tolerance.next_down(), tolerance, tolerance.next_up()];
+    let distance = (probabilities.iter().sum::<f64>() - 1.0).abs();
+    NOTES.with_borrow_mut(|notes| {
+        let found = &mut notes.likelihood;
+        for k in 0..3 {
+            found.low[k] |= probabilities.contains(&low[k]);
+            found.high[k] |= probabilities.contains(&high[k]);
+            found.sum[k] |= distance == far[k];
+        }
+        found.not_finite |= probabilities.iter().any(|p| !p.is_finite());
+        found.outside |= probabilities.iter().any(|p| *p < 0.0 || *p > 1.0);
+    });
+}
+
+/// A record without counts.
+#[inline(always)]
+pub(crate) fn note_zero_total() {
+    if cfg!(feature = "watch") && WATCHED.get() {
+        NOTES.with_borrow_mut(|notes| notes.likelihood.zero_total = true);
+    }
+}
+
+/// A clamped probability of zero that meets a positive count.
+#[inline(always)]
+pub(crate) fn note_zero_counted() {
+    if cfg!(feature = "watch") && WATCHED.get() {
+        NOTES.with_borrow_mut(|notes| notes.likelihood.zero_counted = true);
     }
 }

@@ -16,8 +16,8 @@ pub mod series;
 pub mod sheet;
 pub mod substitute;
 
-/// The kinds that the port's sheet entry has so far. Its reader has all of 1 to 7.
-pub const BUILT: &[u8] = &[1, 2, 3, 4, 6, 7];
+/// The kinds that the port's sheet entry has.
+pub const BUILT: &[u8] = &[1, 2, 3, 4, 5, 6, 7];
 
 /// The Rust with its substitutions.
 #[allow(clippy::all)]

@@ -63,13 +63,30 @@ extern "C" {
         answer_len: usize,
     ) -> u64;
 
+    fn mintshuttle_probabilities(
+        d: u64,
+        effects: u64,
+        names: *const u64,
+        names_len: usize,
+        numbers: *const f64,
+        numbers_len: usize,
+        sequence: *const u64,
+        sequence_len: usize,
+        result: *mut u64,
+        result_len: usize,
+        work: *mut f64,
+        work_len: usize,
+        answer: *mut u64,
+        answer_len: usize,
+    ) -> u64;
+
     fn mintshuttle_sqrt_all(x: *const f64, x_len: usize, out: *mut f64, out_len: usize) -> usize;
 
     fn mintshuttle_ln_all(x: *const f64, x_len: usize, out: *mut f64, out_len: usize) -> usize;
 }
 
 /// The library entries that the port has; calls of others are passed over.
-pub const ENTRIES: &[&str] = &["probes", "setting", "apply", "choi"];
+pub const ENTRIES: &[&str] = &["probes", "setting", "apply", "choi", "probabilities"];
 
 /// The least lengths of the lent slices.
 pub const RESULT_WORDS: usize = 4096;
@@ -177,6 +194,39 @@ pub fn choi(n: u64, values: &[f64], result: &mut [u64], work: &mut [u64], answer
     }
 }
 
+/// The probabilities of a gate sequence.
+#[allow(clippy::too_many_arguments)]
+pub fn probabilities(
+    d: u64,
+    effects: u64,
+    names: &[u64],
+    numbers: &[f64],
+    sequence: &[u64],
+    result: &mut [u64],
+    work: &mut [u64],
+    answer: &mut [u64],
+) -> u64 {
+    // SAFETY: as for the sheet.
+    unsafe {
+        mintshuttle_probabilities(
+            d,
+            effects,
+            names.as_ptr(),
+            names.len(),
+            numbers.as_ptr(),
+            numbers.len(),
+            sequence.as_ptr(),
+            sequence.len(),
+            result.as_mut_ptr(),
+            result.len(),
+            work.as_mut_ptr().cast::<f64>(),
+            work.len(),
+            answer.as_mut_ptr(),
+            answer.len(),
+        )
+    }
+}
+
 /// Any library call.
 pub fn call(call: &Call, result: &mut [u64], work: &mut [u64], answer: &mut [u64]) -> u64 {
     match call {
@@ -184,6 +234,9 @@ pub fn call(call: &Call, result: &mut [u64], work: &mut [u64], answer: &mut [u64
         Call::Setting { n, index } => setting(*n, *index, result, work, answer),
         Call::Apply { n, values, input } => apply(*n, values, input, result, work, answer),
         Call::Choi { n, values } => choi(*n, values, result, work, answer),
+        Call::Probabilities { d, effects, names, numbers, sequence } => {
+            probabilities(*d, *effects, names, numbers, sequence, result, work, answer)
+        }
     }
 }
 

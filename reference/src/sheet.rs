@@ -11,7 +11,7 @@ use core::fmt::Write;
 
 #[derive(Clone, Debug, PartialEq, Eq)]
 pub enum Outcome {
-    /// The kind (8 to 11 for library calls), the header's numbers with zeros after them, and the result words.
+    /// The kind (8 to 12 for library calls), the header's numbers with zeros after them, and the result words.
     Accepted { kind: u8, header: [u64; 4], words: Vec<u64> },
     Refused(Refusal),
 }
@@ -169,7 +169,7 @@ pub fn gate_names(model: &Model) -> Vec<String> {
 }
 
 /// The name of a gate index. One without a gate gets a name that no gate has, and that holds the index.
-fn name_at(names: &[String], index: usize) -> String {
+pub fn name_at(names: &[String], index: usize) -> String {
     names.get(index).cloned().unwrap_or_else(|| format!("{ABSENT}{index}"))
 }
 
@@ -278,6 +278,7 @@ pub fn print(outcome: &Outcome) -> String {
                 9 => writeln!(text, "setting {a}"),
                 10 => writeln!(text, "applied {a}"),
                 11 => writeln!(text, "choi {a}"),
+                12 => writeln!(text, "probabilities {a}"),
                 kind => unreachable!("kind {kind} has no sheet"),
             }
             .unwrap();

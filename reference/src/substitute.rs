@@ -58,6 +58,48 @@ pub const SUBSTITUTIONS: &[Substitution] = &[
         to: "            crate::hooks::note_eigenvalues(&eigenvalues);\n            let mut order: Vec<_> = (0..n).collect();",
         times: 1,
     },
+    Substitution {
+        name: "probabilities",
+        from: "            if probabilities.iter().any(|probability| {",
+        to: "            crate::hooks::note_probabilities(&probabilities, tolerance);\n            if probabilities.iter().any(|probability| {",
+        times: 1,
+    },
+    Substitution {
+        name: "records without counts",
+        from: "            if total_count == 0 {",
+        to: "            if total_count == 0 {\n                crate::hooks::note_zero_total();",
+        times: 1,
+    },
+    Substitution {
+        name: "zeros that are counted",
+        from: "                    if probability == 0.0 {",
+        to: "                    if probability == 0.0 {\n                        crate::hooks::note_zero_counted();",
+        times: 1,
+    },
+    Substitution {
+        name: "gradients",
+        from: "    let mut gradient = Vec::with_capacity(coordinates.len());",
+        to: "    crate::hooks::note_fit(crate::hooks::Event::Gradient);\n    let mut gradient = Vec::with_capacity(coordinates.len());",
+        times: 1,
+    },
+    Substitution {
+        name: "probes",
+        from: "        let derivative = match (positive, negative) {",
+        to: "        crate::hooks::note_fit(crate::hooks::Event::Probes {\n            above: positive.as_ref().map(|probe| probe.0),\n            below: negative.as_ref().map(|probe| probe.0),\n        });\n        let derivative = match (positive, negative) {",
+        times: 1,
+    },
+    Substitution {
+        name: "norms",
+        from: "        if gradient_norm <= config.gradient_tolerance {\n            termination",
+        to: "        crate::hooks::note_fit(crate::hooks::Event::Norm(gradient_norm));\n        if gradient_norm <= config.gradient_tolerance {\n            termination",
+        times: 1,
+    },
+    Substitution {
+        name: "trials",
+        from: "            if let Some(candidate) =\n                evaluate_coordinates(initial, records, parameters, &trial, &anchor, config)?\n            {",
+        to: "            let tried = evaluate_coordinates(initial, records, parameters, &trial, &anchor, config)?;\n            crate::hooks::note_fit(crate::hooks::Event::Trial {\n                objective: tried.as_ref().map(|tried| tried.0),\n                present: objective,\n            });\n            if let Some(candidate) = tried {",
+        times: 1,
+    },
     // An included file may have no inner documentation or attributes.
     Substitution {
         name: "inner documentation",

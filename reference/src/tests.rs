@@ -384,9 +384,9 @@ fn cases_met(cards: impl Iterator<Item = Vec<u8>>) -> BTreeMap<String, usize> {
 
 #[track_caller]
 fn at_least(met: &BTreeMap<String, usize>, least: usize, cases: &[&str]) {
-    for &case in cases {
-        assert!(met.get(case).is_some_and(|&times| times >= least), "{case}: {:?}", met.get(case));
-    }
+    let times = |case: &str| met.get(case).copied().unwrap_or(0);
+    let seldom: Vec<_> = cases.iter().filter(|case| times(case) < least).map(|&case| (case, times(case))).collect();
+    assert!(seldom.is_empty(), "{seldom:#?}");
 }
 
 /// What an inversion can meet, in kind 3 and in kind 6.
@@ -470,6 +470,208 @@ const TESTS: &[&str] = &[
     "refused 12",
     "refused 15",
 ];
+
+const FITS: &[&str] = &[
+    "R 1, the gradient",
+    "R 2, the objective",
+    "R 3, iterations",
+    "R 4, stalled",
+    "R 1 at the start",
+    "R 1 after steps, before point I",
+    "R 1 at point I instead of R 3",
+    "R 2 at the first step",
+    "R 2 after more steps",
+    "R 2 at point I",
+    "R 4 at the start, B trials made",
+    "R 4 after steps",
+    "both probes",
+    "one probe, above",
+    "one probe, below",
+    "no probe: derivative 0",
+    "one probe, the other beyond the tolerance",
+    "one probe, counted zeros on the way",
+    "no probe, both beyond the tolerance",
+    "probes of equal objectives",
+    "accepted at the first trial",
+    "accepted at the last trial of several",
+    "trials passed over before one is accepted",
+    "trials not below before one is accepted",
+    "both sorts of trials before one is accepted",
+    "a trial equal in objective",
+    "a trial whose objective is a NaN",
+    "a norm at the tolerance",
+    "a norm one float above the tolerance",
+    "point I: the last norm at the tolerance",
+    "point I: the last norm one float above the tolerance",
+    "a drop at the tolerance",
+    "a drop one float above the tolerance",
+    "an infinite norm before a search",
+    "an infinite norm on the sheet",
+    "an infinite deviance on the sheet",
+    "two coordinates for one entry",
+    "two coordinates for one entry, steps made",
+    "1 backtrack",
+    "2 backtracks",
+    "3 backtracks",
+    "255 backtracks",
+    "anchor 0",
+    "anchor -0",
+    "anchor positive",
+    "coordinates of the state",
+    "coordinates of an effect",
+    "coordinates of a gate",
+    "d 1, a fit",
+    "d 2, a fit",
+    "d 3, a fit",
+    "d 4, a fit",
+    "d 5, a fit",
+    "d 6, a fit",
+    "d 7, a fit",
+    "d 8, a fit",
+    "d 9, a fit",
+    "d 10, a fit",
+    "d 11, a fit",
+    "d 12, a fit",
+    "d 13, a fit",
+    "d 14, a fit",
+    "d 15, a fit",
+    "d 16, a fit",
+    "13 1",
+    "13 2",
+    "13 3",
+    "13 4",
+    "13 5",
+    "13 6",
+    "13 1 by max_iterations",
+    "13 1 by initial_step",
+    "13 1 by finite_difference_step",
+    "13 1 by gradient_tolerance",
+    "13 1 by objective_tolerance",
+    "13 1 by probability_tolerance",
+    "13 1 by max_backtracks",
+    "13 1 by anchor_strength",
+    "the state (3) before a later fault",
+    "no effects (2) before a later fault",
+    "an effect or a gate (3) before a later fault",
+    "a name (13 6) before a later fault",
+    "controls (13 1) before a later fault",
+    "no records (13 2) before a later fault",
+    "no coordinates (13 3) before a later fault",
+    "a coordinate (13 4 or 14) before a later fault",
+    "14 before a repeat",
+    "13 4 before an absent entry",
+    "7 at the first evaluation",
+    "8 at the first evaluation",
+    "9 at the first evaluation",
+    "two faults in two records",
+    "3 by a probe",
+    "3 by a probe, after others",
+    "3 by the probe above",
+    "3 by the probe below",
+    "3 by a trial",
+    "13 5 by an objective that is not finite",
+    "13 5 by a quotient",
+    "13 5 after other coordinates",
+    "accepted",
+    "refused 2",
+    "refused 3",
+    "refused 7",
+    "refused 8",
+    "refused 9",
+    "refused 13",
+    "refused 14",
+    "refused 15",
+];
+/// Their cost keeps them few.
+const LARGE_FITS: &[&str] = &["64 coordinates", "100 records or more", "16 effects", "8 gates", "12 steps or more"];
+const DIAGNOSTICS: &[&str] = &[
+    "counts add up to 2^64",
+    "counts add up to more than 2^64",
+    "counts add up to 2^64 - 1",
+    "a count above 2^53",
+    "a count above 2^53 that is no float",
+    "a total that is no float",
+    "a probability one float above minus the tolerance",
+    "a probability at minus the tolerance",
+    "a probability one float below minus the tolerance",
+    "a probability one float below 1 plus the tolerance",
+    "a probability at 1 plus the tolerance",
+    "a probability one float above 1 plus the tolerance",
+    "a sum one float nearer to 1 than the tolerance",
+    "a sum as far from 1 as the tolerance",
+    "a sum one float farther from 1 than the tolerance",
+    "a probability that is not finite",
+    "a probability clamped",
+    "a clamped probability of 0 with a positive count",
+    "a total of zero",
+    "an absent gate at the start",
+    "an absent gate after others",
+    "two absent gates in a record",
+    "two faults in two records",
+    "two faults in two records, of two numbers",
+    "a bad tolerance beside a fault of a record",
+    "infinite deviance",
+    "no records",
+    "no records beside a bad tolerance",
+    "a sequence of 64",
+    "d 0",
+    "d 16",
+    "no effects",
+    "no gates",
+    "8 gates",
+    "a name of zero",
+    "a repeated name",
+    "not finite in the state",
+    "not finite in an effect",
+    "not finite in a gate",
+    "accepted",
+    "refused 2",
+    "refused 3",
+    "refused 5",
+    "refused 7",
+    "refused 8",
+    "refused 9",
+    "refused 13",
+    "refused 15",
+];
+
+#[test]
+fn random_fits_meet_every_case() {
+    let mut rng = Rng::new(43);
+    let met = cases_met((0..20_000).map(|_| makers::card(5, &mut rng)));
+    at_least(&met, 20, FITS);
+    at_least(&met, 5, LARGE_FITS);
+}
+
+#[test]
+fn random_diagnostics_meet_every_case() {
+    let mut rng = Rng::new(47);
+    let met = cases_met((0..20_000).map(|_| makers::card(7, &mut rng)));
+    at_least(&met, 30, DIAGNOSTICS);
+    at_least(&met, 5, &["200 records"]);
+}
+
+/// A fit that ends before its limit is the same at any later one, but for R, which is 3 or 1 at the limit itself.
+#[test]
+fn one_card_at_1_to_12_iterations() {
+    let mut rng = Rng::new(53);
+    let mut longest = 0;
+    for _ in 0..200 {
+        let mut before: Option<([u64; 4], Vec<u64>)> = None;
+        for (words, limit) in makers::fits::series(&mut rng).iter().zip(1..) {
+            assert_eq!(words[1], limit);
+            let Outcome::Accepted { header, words, .. } = sheet(words) else { break };
+            let steps = header[1];
+            assert!(steps <= limit);
+            longest = longest.max(steps);
+            if let Some((last, sheet)) = before.filter(|(last, _)| last[1] + 1 < limit) {
+                assert_eq!((last, &sheet), (header, &words));
+            }
+            before = Some((header, words));
+        }
+    }
+    assert_eq!(longest, 12);
+}
 
 #[test]
 fn random_tests_of_transfer_matrices_meet_every_case() {
@@ -565,7 +767,9 @@ fn library_calls() {
     // The state (|00> + |11>)/sqrt 2 for the identity.
     let half = 0.5f64.to_bits();
     let mut wanted = vec![0; 32];
-    [0, 6, 24, 30].map(|place| wanted[place] = half);
+    for place in [0, 6, 24, 30] {
+        wanted[place] = half;
+    }
     assert_eq!(choi(1, &identity), (0, [11, 4, 0, 0, 0], wanted));
     assert_eq!(choi(2, &[0.0; 256]), (0, [11, 16, 0, 0, 0], vec![0; 512]));
     assert_eq!(choi(1, &[nan; 15]).1, [0, 2, 16, 15, 0]);
@@ -581,7 +785,7 @@ fn library_calls() {
 #[test]
 fn random_calls_meet_every_case() {
     let mut met = BTreeMap::new();
-    for entry in ["probes", "setting", "apply", "choi"] {
+    for entry in ["probes", "setting", "apply", "choi", "probabilities"] {
         let mut rng = Rng::new(37);
         for _ in 0..20_000 {
             let call = calls::call(entry, &mut rng);
@@ -616,26 +820,95 @@ fn random_calls_meet_every_case() {
         "choi: a subnormal in the result",
         "choi: the largest finite numbers, accepted",
         "choi: a wrong length beside numbers that are not finite",
+        "probabilities: accepted",
+        "probabilities: refused 2",
+        "probabilities: refused 3",
+        "probabilities: refused 7",
+        "probabilities: refused 13",
+        "probabilities: refused 15",
+        "probabilities: -0 in the result",
+        "probabilities: a subnormal in the result",
+        "probabilities: an infinity in the result",
+        "probabilities: a NaN in the result",
+        "probabilities: d 0",
+        "probabilities: d 16",
+        "probabilities: d above 16",
+        "probabilities: no effects",
+        "probabilities: effects above 16",
+        "probabilities: no gates",
+        "probabilities: 8 gates",
+        "probabilities: names above 8",
+        "probabilities: a name of zero",
+        "probabilities: a repeated name",
+        "probabilities: not finite in the state",
+        "probabilities: not finite in an effect",
+        "probabilities: not finite in a gate",
+        "probabilities: an empty sequence",
+        "probabilities: a sequence of 64",
+        "probabilities: a sequence above 64",
+        "probabilities: an absent gate after others",
+        "probabilities: two absent gates",
+        "probabilities: a fault of the model beside an absent gate",
+        "probabilities: a wrong length beside numbers that are not finite",
     ];
     at_least(&met, 30, &cases);
+}
+
+#[test]
+fn order_in_probabilities() {
+    let numbers = [1.0, 0.25, 0.5, 0.5, 0.5, -0.5, 1.0, 0.0, 0.125, 0.75];
+    let of = |d, effects, names: &[u64], numbers: &[f64], sequence: &[u64]| {
+        let (names, numbers, sequence) = (names.to_vec(), numbers.to_vec(), sequence.to_vec());
+        called(Call::Probabilities { d, effects, names, numbers, sequence })
+    };
+    let (code, answer, words) = of(2, 2, &[5], &numbers, &[]);
+    assert_eq!((code, answer), (0, [12, 2, 0, 0, 0]));
+    assert_eq!(words, [0.625, 0.375].map(f64::to_bits));
+    assert_eq!(of(2, 2, &[5], &numbers, &[0]).2, [0.65625, 0.34375].map(f64::to_bits));
+    let nan = f64::NAN;
+    for (d, effects, names, length) in [(17, 0, 1, 0), (0, 17, 1, 0), (0, 0, 9, 0), (0, 0, 1, 65), (u64::MAX, 1, 1, 1)] {
+        assert_eq!(of(d, effects, &vec![0; names], &[nan], &vec![9; length]).1, [0, 15, 0, 0, 0]);
+    }
+    assert_eq!(of(2, 2, &[0], &[nan; 9], &[9]).1, [0, 2, 10, 9, 0]);
+    assert_eq!(of(0, 0, &[0], &[nan], &[9]).1, [0, 2, 0, 1, 0]);
+    assert_eq!(of(0, 0, &[0], &[], &[9]).1, [0, 3, 0, 0, 0]);
+    assert_eq!(of(2, 0, &[0], &[1.0, nan, 1.0, 1.0, 1.0, 1.0], &[9]).1, [0, 3, 0, 0, 0]);
+    assert_eq!(of(2, 0, &[0], &[1.0, 1.0, nan, 1.0, 1.0, 1.0], &[9]).1, [0, 2, 2, 0, 0]);
+    for place in 0..10 {
+        let mut changed = numbers;
+        changed[place] = f64::INFINITY;
+        assert_eq!(of(2, 2, &[0], &changed, &[9]).1, [0, 3, 0, 0, 0]);
+    }
+    assert_eq!(of(2, 2, &[0], &numbers, &[9]).1, [0, 13, 6, 0, 0]);
+    assert_eq!(of(2, 2, &[5], &numbers, &[0, 1, 9]).1, [0, 7, 1, 0, 0]);
+    assert_eq!(of(2, 2, &[5], &numbers, &[0, u64::MAX, 1]).1, [0, 7, u64::MAX, 0, 0]);
+    assert_eq!(of(1, 1, &[], &[f64::MAX, 2.0], &[]).2, [f64::INFINITY.to_bits()]);
+    // A stored call's words.
+    let call = Call::Probabilities { d: 1, effects: 1, names: vec![7], numbers: vec![1.0, 2.0, 3.0], sequence: vec![0, 4] };
+    let [one, two, three] = [1.0f64, 2.0, 3.0].map(f64::to_bits);
+    assert_eq!(call.words(), [12, 1, 1, 1, 7, 3, one, two, three, 0, 4]);
+    let call = Call::Probabilities { d: 1, effects: 1, names: vec![7], numbers: vec![1.0, 2.0, 3.0], sequence: vec![0] };
+    assert_eq!(print(&call.outcome()), "probabilities 1\n4018000000000000\n");
 }
 
 #[test]
 fn stored_calls() {
     let list = calls::stored();
     let printed: Vec<String> = list.iter().map(|call| print(&call.outcome())).collect();
-    assert!((80..=130).contains(&list.len()), "{}", list.len());
+    assert!((120..=170).contains(&list.len()), "{}", list.len());
     assert_eq!(printed.iter().filter(|text| text.starts_with("probes 64\n")).count(), 1);
     let starts = ["probes 4\n", "probes 16\n", "setting 1\n", "setting 2\n", "setting 3\n", "applied 4\n", "applied 16\n"];
-    for start in starts.into_iter().chain(["choi 4\n", "choi 16\n"]) {
+    for start in starts.into_iter().chain(["choi 4\n", "choi 16\n", "probabilities 1\n", "probabilities 2\n"]) {
         assert!(printed.iter().any(|text| text.starts_with(start)), "{start}");
     }
-    for start in ["refused 1 ", "refused 2 ", "refused 3 ", "refused 15 "] {
+    for start in ["refused 1 ", "refused 2 ", "refused 3 ", "refused 7 ", "refused 13 ", "refused 15 "] {
         assert!(printed.iter().any(|text| text.starts_with(start)), "{start}");
     }
     for word in ["7ff8000000000000", "7ff0000000000000", "fff0000000000000", "8000000000000000"] {
-        let shown = |text: &String| text.starts_with("applied") && text.lines().any(|line| line == word);
-        assert!(printed.iter().any(shown), "{word}");
+        for entry in ["applied", "probabilities"] {
+            let shown = |text: &String| text.starts_with(entry) && text.lines().any(|line| line == word);
+            assert!(printed.iter().any(shown), "{entry} {word}");
+        }
     }
     assert_eq!(print(&Call::Setting { n: 2, index: 5 }.outcome()), "setting 2\n0000000000000002\n0000000000000003\n");
     let apply = Call::Apply { n: 1, values: vec![1.0], input: vec![-0.0] };

@@ -5,15 +5,27 @@
 //! the outcomes of the calls.
 
 use reference::card::bytes_of;
+use reference::cases;
+use reference::hooks::with_notes;
 use reference::makers::{self, calls, fixed, readings};
 use reference::random::Rng;
+use reference::sheet::{self, Outcome};
 use reference::tomography::product_probe_expectations;
-use reference::{sheet, BUILT};
+use reference::BUILT;
+use std::collections::BTreeMap;
 use std::path::Path;
 use std::{env, fs, io};
 
-/// Of each kind that the port has.
+/// Of each kind that the port has, kind 5 aside.
 const SHEETS: usize = 300;
+/// Of kind 5: so many in all, most of them no larger and with no more evaluations than this.
+const FITS: usize = 150;
+const FIT_BYTES: usize = 700;
+const FIT_EVALUATIONS: u64 = 300;
+/// Each case of a fit that a random card meets is stored so often.
+const EACH_CASE: usize = 2;
+/// Random fits that are looked through.
+const FITS_TRIED: usize = 40_000;
 const SHEET_BYTES: usize = 150_000;
 const READINGS: usize = 700;
 /// A card and its answer that are always small enough.
@@ -127,6 +139,10 @@ fn sheets() -> Stored {
         stored.put(&vec![0x11; size]);
     }
     for &kind in BUILT {
+        if kind == 5 {
+            fits(&mut stored);
+            continue;
+        }
         for words in large(kind) {
             stored.put(&bytes_of(&words));
         }
@@ -135,6 +151,48 @@ fn sheets() -> Stored {
         stored.fill(count, limit, fixed, |rng| makers::card(kind, rng), &mut rng);
     }
     stored
+}
+
+/// Fits by the cases that they meet: a card is stored if one of its cases is still wanted. Small cards first, so that larger
+/// ones are taken only for what no small one meets; then one card at 1 to 12 iterations, and any others.
+fn fits(stored: &mut Stored) {
+    let mut rng = Rng::new(2026);
+    let first = stored.count;
+    let mut met: BTreeMap<String, usize> = BTreeMap::new();
+    let cards: Vec<Vec<u8>> = (0..FITS_TRIED).map(|_| makers::card(5, &mut rng)).collect();
+    for (bytes, evaluations, wanted) in
+        [(FIT_BYTES, FIT_EVALUATIONS, EACH_CASE), (4 * FIT_BYTES, 2 * FIT_EVALUATIONS, 1), (20 * FIT_BYTES, u64::MAX, 1)]
+    {
+        for card in cards.iter().filter(|card| card.len() <= bytes && !card.is_empty() && card[0] >> 4 == 5) {
+            let (outcome, notes) = with_notes(|| sheet::built_outcome(card));
+            let (end, cost) = match &outcome {
+                Outcome::Accepted { header, .. } => ("accepted".to_string(), header[2]),
+                Outcome::Refused(refusal) => (format!("refused {}", refusal.n), 0),
+            };
+            let cases = cases::of_card(card, &outcome, &notes).into_iter().map(str::to_string).chain([end]);
+            let cases: Vec<String> = cases.collect();
+            let lacking = |case: &String| met.get(case).copied().unwrap_or(0) < wanted;
+            if cost <= evaluations && cases.iter().any(lacking) {
+                stored.put(card);
+                cases.into_iter().for_each(|case| *met.entry(case).or_default() += 1);
+            }
+        }
+    }
+    let small = |cards: &Vec<Vec<u64>>| cards[0].len() <= FIT_BYTES / 8;
+    let twelve = (0..1000).map(|_| makers::fits::series(&mut rng)).find(|cards| small(cards) && makes_steps(&cards[11]));
+    for words in twelve.expect("some series is small") {
+        stored.put(&bytes_of(&words));
+    }
+    for card in cards.iter().filter(|card| card.len() <= FIT_BYTES / 2) {
+        if stored.count - first < FITS {
+            stored.put(card);
+        }
+    }
+}
+
+/// The fit still makes steps at its limit.
+fn makes_steps(words: &[u64]) -> bool {
+    matches!(sheet::outcome(&bytes_of(words)), Outcome::Accepted { header: [3, ..], .. })
 }
 
 fn readings() -> Stored {

@@ -1,16 +1,17 @@
 //! Compares the port with the Rust: `compare COUNT SEED [GROUP..]`.
 //!
-//! A group is a kind (1 to 7) of the sheet entry, `read`, a library entry (`probes`, `setting`, `apply`, `choi`), `sqrt` or
-//! `ln`; without one all are run. Each has its fixed cards or calls and COUNT random ones; `sqrt` and `ln` have fixed numbers and
-//! 100 times COUNT random ones. Then the cases are counted that kinds 3, 4 and 6 and the library entries met. The exit status
-//! is 1 if anything differs.
+//! A group is a kind (1 to 7) of the sheet entry, `read`, a library entry (`probes`, `setting`, `apply`, `choi`,
+//! `probabilities`), `sqrt` or `ln`; without one all are run. Each has its fixed cards or calls and COUNT random ones; `sqrt`
+//! and `ln` have fixed numbers and 100 times COUNT random ones. Kind 5 has a fifth of COUNT, and for each hundred of these one
+//! card that is tried at 1 to 12 iterations. Then the cases are counted that kinds 3 to 7 and the library entries met. The
+//! exit status is 1 if anything differs.
 
 use reference::card::{self, bytes_of, Refusal};
 use reference::cases::{self, Cases};
 use reference::hooks::with_notes;
 use reference::library::Call;
 use reference::ln::ln;
-use reference::makers::{self, arguments, calls, fixed};
+use reference::makers::{self, arguments, calls, fits, fixed};
 use reference::port::{self, ANSWER_WORDS, RESULT_WORDS, WORK_WORDS};
 use reference::random::Rng;
 use reference::sheet::{self, Outcome};
@@ -23,13 +24,17 @@ use std::process::ExitCode;
 const GUARD: usize = 16;
 const SHOWN: usize = 5;
 
-const USAGE: &str = "compare COUNT SEED [1..7 | read | probes | setting | apply | choi | sqrt | ln]..
-  COUNT random cards for each kind and for read, COUNT random calls for each library entry,
+const USAGE: &str = "compare COUNT SEED [1..7 | read | probes | setting | apply | choi | probabilities | sqrt | ln]..
+  COUNT random cards for each kind but 5, a fifth of COUNT for kind 5, COUNT for read and for each library entry,
   100 times COUNT random numbers for sqrt and for ln";
-const GROUPS: [&str; 14] =
-    ["1", "2", "3", "4", "5", "6", "7", "read", "probes", "setting", "apply", "choi", "sqrt", "ln"];
-const ENTRIES: [&str; 4] = ["probes", "setting", "apply", "choi"];
+const GROUPS: [&str; 15] =
+    ["1", "2", "3", "4", "5", "6", "7", "read", "probes", "setting", "apply", "choi", "probabilities", "sqrt", "ln"];
+const ENTRIES: [&str; 5] = ["probes", "setting", "apply", "choi", "probabilities"];
 
+/// A fit takes longer: one for so many random cards of another kind.
+const FIT_SHARE: u64 = 5;
+/// Random fits for each card that is tried at 1 to 12 iterations.
+const CARDS_PER_SERIES: u64 = 100;
 /// Random numbers of `sqrt` and `ln` for each random card of another group.
 const NUMBERS_PER_COUNT: u64 = 100;
 /// Most numbers in one call.
@@ -268,7 +273,10 @@ impl Compare {
             Outcome::Refused(Refusal::new(16, 0, 0))
         } else {
             let (outcome, notes) = with_notes(|| sheet::built_outcome(bytes));
-            self.count_cases(&format!("kind {kind}"), cases::of_card(bytes, &outcome, &notes));
+            // Cards of a kind that the port lacks are all one refusal.
+            if BUILT.iter().any(|built| built.to_string() == kind) {
+                self.count_cases(&format!("kind {kind}"), cases::of_card(bytes, &outcome, &notes));
+            }
             outcome
         };
         let kept = check_kept("card", &self.card[shift..], bytes);
@@ -316,6 +324,20 @@ impl Compare {
                 let returned = port::choi(*n, &whole[GUARD..][..values.len()], result, work, answer);
                 let after: Vec<u64> = black_box(&whole).iter().map(|x| x.to_bits()).collect();
                 (returned, check_kept("values", &after, &bits))
+            }
+            Call::Probabilities { d, effects, names, numbers, sequence } => {
+                let beyond = [f64::NAN; GUARD];
+                let whole = [&beyond, &numbers[..], &beyond].concat();
+                let bits: Vec<u64> = whole.iter().map(|x| x.to_bits()).collect();
+                let given = [&names[..], &sequence[..]].concat();
+                let (named, applied) = given.split_at(names.len());
+                let numbers = &whole[GUARD..][..numbers.len()];
+                let returned =
+                    port::probabilities(*d, *effects, named, numbers, applied, result, work, answer);
+                let after: Vec<u64> = black_box(&whole).iter().map(|x| x.to_bits()).collect();
+                let kept = check_kept("numbers", &after, &bits)
+                    .and(check_kept("names and sequence", black_box(&given), &[&names[..], &sequence[..]].concat()));
+                (returned, kept)
             }
             other => (port::call(other, result, work, answer), Ok(())),
         };
@@ -486,9 +508,21 @@ fn main() -> ExitCode {
         for bytes in fixed::edges(kind).iter().chain(&fixed::sweep(&fixed::base(kind))) {
             compare.sheet(bytes);
         }
+        let share = match kind {
+            5 => FIT_SHARE,
+            _ => 1,
+        };
         // Kinds that the port lacks are all one refusal.
-        for _ in 0..if built { count } else { count / 50 } {
+        for _ in 0..if built { count / share } else { count / 50 } {
             compare.sheet(&makers::card(kind, &mut rng));
+        }
+        if kind == 5 && built {
+            for _ in 0..count / share / CARDS_PER_SERIES {
+                for words in fits::series(&mut rng) {
+                    compare.sheet(&bytes_of(&words));
+                }
+                compare.count_cases("kind 5", vec!["one card at 1 to 12 iterations"]);
+            }
         }
     }
     if wanted("read") {

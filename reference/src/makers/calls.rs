@@ -1,6 +1,7 @@
 //! Library calls to try.
 
 use super::fixed::diagonal;
+use super::gate_set;
 use super::numbers::{self, power};
 use crate::library::Call;
 use crate::random::Rng;
@@ -68,6 +69,7 @@ pub fn call(entry: &str, rng: &mut Rng) -> Call {
         }
         "apply" => apply(rng),
         "choi" => choi(rng),
+        "probabilities" => probabilities(rng),
         _ => panic!("no entry {entry}"),
     }
 }
@@ -155,6 +157,152 @@ fn choi(rng: &mut Rng) -> Call {
     Call::Choi { n, values }
 }
 
+/// Sizes above every limit, some of them small in a narrower integer.
+const WRONG_SIZES: &[u64] = &[17, 18, 32, 255, 256, 257, 272, 65_537, 1 << 32, (1 << 32) + 2, 1 << 63, u64::MAX];
+
+/// An index that names no gate.
+fn absent(gates: usize, rng: &mut Rng) -> u64 {
+    let gates = gates as u64;
+    match rng.below(4) {
+        0 => gates,
+        1 => rng.between(gates, 15.max(gates)),
+        2 => rng.pick(&[16, 255, 256, 1 << 32, (1 << 32) + 1, 1 << 63, u64::MAX]),
+        _ => gates + rng.below(300),
+    }
+}
+
+fn probabilities(rng: &mut Rng) -> Call {
+    let (head, mut names, mut numbers) = gate_set::model_parts(rng);
+    let gates = names.len();
+    let (mut d, mut effects) = (head.d as u64, head.effects as u64);
+    let length = match rng.below(8) {
+        0 => 0,
+        1 => 64,
+        2 => rng.index(65),
+        _ => rng.index(6),
+    };
+    let mut sequence: Vec<u64> = if gates == 0 { Vec::new() } else { (0..length).map(|_| rng.below(gates as u64)).collect() };
+    if rng.chance(15) {
+        // All in one style, so that sums leave the range at either end or come out as -0.
+        let style = any_numbers(numbers.len(), rng);
+        numbers = style;
+    }
+    for _ in 0..rng.pick(&[0, 0, 0, 0, 0, 0, 0, 1, 1, 2]) {
+        match rng.below(12) {
+            0 => d = rng.pick(WRONG_SIZES),
+            1 => effects = rng.pick(WRONG_SIZES),
+            2 => {
+                // More names than gates can be, with or without their numbers.
+                let more = 9 + rng.index(4);
+                if rng.chance(50) {
+                    numbers.resize(numbers.len() + more.saturating_sub(names.len()) * (head.d * head.d), 0.5);
+                }
+                names = (1..=more as u64).collect();
+            }
+            3 => sequence = vec![0; rng.pick(&[65, 66, 128, 200])],
+            4 | 5 => numbers.resize(wrong_length(numbers.len().max(1), rng), rng.signed()),
+            6 | 7 if !numbers.is_empty() => {
+                let place = rng.index(numbers.len());
+                numbers[place] = f64::from_bits(rng.pick(NON_FINITE));
+            }
+            8 if gates > 0 => names[rng.index(gates)] = 0,
+            9 if gates > 1 => {
+                let later = 1 + rng.index(gates - 1);
+                names[later] = names[rng.index(later)];
+            }
+            _ if sequence.is_empty() => sequence = vec![absent(gates, rng)],
+            _ => {
+                for _ in 0..=rng.below(2) {
+                    let place = rng.index(sequence.len());
+                    sequence[place] = absent(gates, rng);
+                }
+            }
+        }
+    }
+    Call::Probabilities { d, effects, names, numbers, sequence }
+}
+
+/// d 2, two effects and two gates that do not commute; each argument at its faults, alone and beside a later one.
+fn fixed_probabilities() -> Vec<Call> {
+    let mut rng = Rng::new(1);
+    let mut list = Vec::new();
+    let names = [7, 9];
+    let numbers = [1.0, 0.25, 0.5, 0.5, 0.5, -0.5, 1.0, 0.0, 0.125, 0.75, 1.0, 0.0, 0.25, -0.5];
+    let mut put = |d: u64, effects: u64, names: &[u64], numbers: &[f64], sequence: &[u64]| {
+        let (names, numbers, sequence) = (names.to_vec(), numbers.to_vec(), sequence.to_vec());
+        list.push(Call::Probabilities { d, effects, names, numbers, sequence });
+    };
+    for sequence in [&[][..], &[0], &[1], &[0, 1], &[1, 0], &[0, 0, 1], &[0; 64], &[1; 64]] {
+        put(2, 2, &names, &numbers, sequence);
+    }
+    // Indices that name no gate: the first one counts.
+    for index in [2, 3, 8, 15, 16, 255, 256, 1 << 32, (1 << 32) + 1, 1 << 63, u64::MAX] {
+        for sequence in [&[index][..], &[0, 1, index], &[index, 99], &[1, index, 0, 98]] {
+            put(2, 2, &names, &numbers, sequence);
+        }
+        put(2, 2, &[], &numbers[..6], &[index]);
+    }
+    put(2, 2, &[], &numbers[..6], &[]);
+    put(2, 2, &[], &numbers[..6], &[0]);
+    // Limits, beside all later faults.
+    let nan = f64::NAN;
+    for &size in WRONG_SIZES {
+        for numbers in [&numbers[..], &[nan; 14], &[]] {
+            put(size, 2, &names, numbers, &[9]);
+            put(2, size, &names, numbers, &[9]);
+        }
+        put(size, 0, &[0, 0], &[nan], &[9]);
+    }
+    for count in 0..=12u64 {
+        let many: Vec<u64> = (1..=count).collect();
+        put(1, 1, &many, &vec![0.5; 2 + count as usize], &[0]);
+        put(1, 1, &many, &vec![0.5; 2 + count as usize], &many);
+        put(1, 1, &vec![0; count as usize], &vec![nan; 2 + count as usize], &[count]);
+    }
+    for length in [63, 64, 65, 66, 128, 255, 256, 257, 4096] {
+        put(2, 2, &names, &numbers, &vec![1; length]);
+        put(2, 2, &names, &[nan; 13], &vec![9; length]);
+        put(0, 0, &[], &[], &vec![0; length]);
+    }
+    // Counts of numbers, beside numbers that are not finite and names that are not good.
+    for length in (0..=16).chain([28, 256, 2312, 8192]) {
+        put(2, 2, &names, &vec![0.5; length], &[0]);
+        put(2, 2, &[0, 0], &vec![nan; length], &[9]);
+        put(0, 2, &[], &vec![0.5; length], &[]);
+        put(0, 0, &[], &vec![0.5; length], &[]);
+        put(3, 0, &[], &vec![0.5; length], &[]);
+        put(1, 0, &[0], &vec![nan; length], &[9]);
+    }
+    for bits in numbers::SPECIALS.iter().chain(NON_FINITE) {
+        let x = f64::from_bits(*bits);
+        for place in 0..numbers.len() {
+            let mut changed = numbers;
+            changed[place] = x;
+            put(2, 2, &names, &changed, &[0, 1, 1]);
+            // Before the names, and before the sequence.
+            put(2, 2, &[7, 7], &changed, &[0]);
+            put(2, 2, &names, &changed, &[9]);
+        }
+        put(2, 2, &names, &[x; 14], &[0, 1, 1]);
+        put(2, 0, &names, &[x; 10], &[0]);
+    }
+    for names in [[0, 9], [7, 0], [0, 0], [7, 7], [u64::MAX, u64::MAX], [u64::MAX, 1 << 63], [7, 7 + (1 << 32)]] {
+        put(2, 2, &names, &numbers, &[1, 0]);
+        put(2, 2, &names, &numbers, &[9]);
+    }
+    // Every shape.
+    for d in 0..=16usize {
+        for (effects, gates) in [(0, 0), (1, 0), (1, 1), (2, 3), (5, 2), (16, 8)] {
+            let count = d + effects * d + gates * d * d;
+            let numbers: Vec<f64> = (0..count).map(|_| 0.5 * rng.signed()).collect();
+            let names: Vec<u64> = (0..gates as u64).map(|k| k + 1).collect();
+            let sequence: Vec<u64> = if gates == 0 { vec![] } else { (0..d).map(|_| rng.below(gates as u64)).collect() };
+            put(d as u64, effects as u64, &names, &numbers, &sequence);
+        }
+    }
+    list
+}
+
 /// The calls of this entry that are always tried.
 pub fn fixed(entry: &str) -> Vec<Call> {
     let qubits = || WRONG_QUBITS.iter().copied().chain(1..=3);
@@ -165,6 +313,7 @@ pub fn fixed(entry: &str) -> Vec<Call> {
         }
         "apply" => fixed_apply(),
         "choi" => fixed_choi(),
+        "probabilities" => fixed_probabilities(),
         _ => panic!("no entry {entry}"),
     }
 }
@@ -351,6 +500,61 @@ pub fn stored() -> Vec<Call> {
     }
     for _ in 0..6 {
         put(1, any_numbers(16, &mut rng));
+    }
+    list.extend(stored_probabilities());
+    list
+}
+
+/// Small calls of every sort.
+fn stored_probabilities() -> Vec<Call> {
+    let (max, tiny, nan) = (f64::MAX, 5e-324, f64::from_bits(0x7ff8000000000000));
+    let mut list = Vec::new();
+    let mut put = |d: u64, effects: u64, names: &[u64], numbers: &[f64], sequence: &[u64]| {
+        let (names, numbers, sequence) = (names.to_vec(), numbers.to_vec(), sequence.to_vec());
+        list.push(Call::Probabilities { d, effects, names, numbers, sequence });
+    };
+    let names = [7, 9];
+    let numbers = [1.0, 0.25, 0.5, 0.5, 0.5, -0.5, 1.0, 0.0, 0.125, 0.75, 1.0, 0.0, 0.25, -0.5];
+    for sequence in [&[][..], &[0], &[0, 1], &[1, 0], &[1; 64], &[2], &[0, 15, 16], &[u64::MAX], &[1 << 32]] {
+        put(2, 2, &names, &numbers, sequence);
+    }
+    put(2, 2, &names, &numbers, &[0; 65]);
+    put(17, 2, &names, &[nan], &[9]);
+    put(2, 17, &[0, 0], &[nan], &[9]);
+    put((1 << 32) + 2, 2, &names, &numbers, &[]);
+    put(1, 1, &[1; 9], &[nan; 11], &[]);
+    put(1, 1, &[1, 2, 3, 4, 5, 6, 7, 8], &[0.5; 10], &[7, 0]);
+    for length in [0, 13, 15] {
+        put(2, 2, &[0, 0], &vec![nan; length], &[9]);
+    }
+    put(0, 2, &[], &[], &[0]);
+    put(0, 0, &[0], &[], &[]);
+    put(2, 0, &[0], &[nan, 1.0, 1.0, 1.0, 1.0, 1.0], &[9]);
+    put(2, 0, &[0], &[1.0, 1.0, nan, 1.0, 1.0, 1.0], &[9]);
+    put(2, 2, &[], &numbers[..6], &[]);
+    put(2, 2, &[], &numbers[..6], &[0]);
+    for place in [1, 5, 13] {
+        for x in [nan, f64::NEG_INFINITY] {
+            let mut changed = numbers;
+            changed[place] = x;
+            put(2, 2, &[0, 0], &changed, &[9]);
+        }
+    }
+    for names in [[0, 9], [7, 0], [7, 7]] {
+        put(2, 2, &names, &numbers, &[9]);
+    }
+    // Infinities, a NaN, -0 and the smallest number in the result.
+    put(1, 2, &[], &[max, 2.0, -2.0], &[]);
+    put(2, 1, &[1], &[max, max, 1.0, -1.0, 1.0, 1.0, 1.0, 1.0], &[0]);
+    put(2, 2, &[], &[1.0, 1.0, -0.0, -0.0, 0.0, -0.0], &[]);
+    put(1, 2, &[1], &[tiny, 1.0, -0.25, 1.0], &[0, 0]);
+    let mut rng = Rng::new(2027);
+    for (d, effects, gates) in [(3, 2, 2), (4, 2, 3), (5, 1, 1), (16, 2, 1)] {
+        let count = d + effects * d + gates * d * d;
+        let numbers: Vec<f64> = (0..count).map(|_| 0.5 * rng.signed()).collect();
+        let names: Vec<u64> = (0..gates as u64).map(|k| k + 1).collect();
+        let sequence: Vec<u64> = (0..7).map(|_| rng.below(gates as u64)).collect();
+        put(d as u64, effects as u64, &names, &numbers, &sequence);
     }
     list
 }

@@ -1,5 +1,6 @@
 //! Cards that are always tried: document 01's examples, the reader's traps, and sweeps over one card.
 
+use super::fits;
 use super::numbers::{self, power};
 use super::words_of;
 use crate::card::{self, bytes_of, Head, Refusal, Role};
@@ -657,6 +658,10 @@ fn other_edges(kind: u8) -> Vec<Vec<u64>> {
             ] {
                 list.push(fit(default_controls(), &model, &records, &coordinates));
                 list.push(fit(default_controls(), &model, &[], &coordinates));
+            }
+            let mut rng = Rng::new(5);
+            for _ in 0..8 {
+                list.extend(fits::series(&mut rng));
             }
         }
         6 => list = gauge_edges(),

@@ -1,12 +1,13 @@
-//! Kinds 5, 6 and 7.
+//! Kinds 6 and 7, and what kind 5 has in common with them.
 
 use super::numbers::{self, power};
 use super::words_of;
-use crate::card::Head;
+use crate::card::{self, Head, Job};
 use crate::random::Rng;
+use crate::sheet;
 
 /// d, effects and gates; small ones more often, since a fit's cost grows with all of them.
-fn shape(kind: u8, rng: &mut Rng) -> Head {
+pub fn shape(kind: u8, rng: &mut Rng) -> Head {
     let d = match rng.below(20) {
         0 | 1 => 1,
         2..=7 => 2,
@@ -33,7 +34,7 @@ fn shape(kind: u8, rng: &mut Rng) -> Head {
 
 /// A state with first entry 1, effects that add up to (1, 0, ..) and gates with first row (1, 0, ..): the probabilities
 /// then add up to 1 but for rounding, and are mostly positive.
-fn model(head: &Head, rng: &mut Rng) -> Vec<u64> {
+pub fn model(head: &Head, rng: &mut Rng) -> Vec<u64> {
     let (d, effects) = (head.d, head.effects);
     let size = 1.0 / (2.0 * d as f64);
     let exact = rng.chance(40);
@@ -86,7 +87,7 @@ fn model(head: &Head, rng: &mut Rng) -> Vec<u64> {
 }
 
 /// Faults of the model: names, lost normalization.
-fn spoil_model(words: &mut [u64], at: usize, head: &Head, rng: &mut Rng) {
+pub fn spoil_model(words: &mut [u64], at: usize, head: &Head, rng: &mut Rng) {
     let numbers = head.d + head.effects * head.d;
     let name = |gate: usize| at + numbers + (1 + head.d * head.d) * gate;
     match rng.below(3) {
@@ -103,7 +104,7 @@ fn spoil_model(words: &mut [u64], at: usize, head: &Head, rng: &mut Rng) {
     }
 }
 
-fn records(head: &Head, longest: usize, rng: &mut Rng) -> Vec<u64> {
+pub fn records(head: &Head, longest: usize, rng: &mut Rng) -> Vec<u64> {
     let mut words = Vec::new();
     for _ in 0..head.records {
         let length = if head.gates == 0 && rng.chance(90) { 0 } else { rng.index(longest + 1) };
@@ -119,7 +120,7 @@ fn records(head: &Head, longest: usize, rng: &mut Rng) -> Vec<u64> {
         words.extend((0..head.effects).map(|_| match style {
             0 => 0,
             1 => rng.next() >> 3,
-            2 => rng.pick(&[u64::MAX, 1 << 63, 1, 0, (1 << 53) + 1]),
+            2 => rng.pick(&[u64::MAX, 1 << 63, (1 << 63) - 1, 1, 0, (1 << 53) + 1]),
             3 => rng.next() >> rng.below(64),
             4..=8 => rng.below(3),
             _ => rng.between(1, 100),
@@ -128,9 +129,47 @@ fn records(head: &Head, longest: usize, rng: &mut Rng) -> Vec<u64> {
     words
 }
 
+/// Two counts of a record that add up to 2^64, or to a little more or less.
+fn counts_at_the_limit(words: &mut [u64], at: usize, head: &Head, rng: &mut Rng) {
+    let record = at + rng.index(head.records) * (5 + head.effects);
+    let counts = &mut words[record + 5..record + 5 + head.effects];
+    counts.fill(0);
+    let first = rng.next() >> rng.below(64) | 1;
+    let (one, other) = (rng.index(counts.len()), rng.index(counts.len()));
+    counts[one] = first;
+    if one != other {
+        // 2^64 less the first, and as much beside it as fits into a word.
+        let rest = u64::MAX - first + 1;
+        counts[other] = rng.pick(&[rest, rest, rest.saturating_sub(1), rest.saturating_add(1)]);
+    }
+}
+
+/// Numbers that add up to something near 1, and the tolerance as far from 1 as that, or one float beside it.
+fn tolerance_at_sum(words: &mut [u64], head: &Head, rng: &mut Rng) {
+    let place = 2 + head.d + rng.index(head.effects * head.d);
+    let changed = f64::from_bits(words[place]) + power(-4 - rng.below(30) as i64) * rng.signed();
+    words[place] = changed.to_bits();
+    let Ok(Job::Diagnostics { model, records, .. }) = card::read(&card::bytes_of(words)) else { return };
+    let names = sheet::gate_names(&model);
+    let sequence: Vec<String> = records[0].sequence.iter().map(|&gate| sheet::name_at(&names, gate)).collect();
+    let sequence: Vec<&str> = sequence.iter().map(String::as_str).collect();
+    let Some(found) = sheet::model_of(&model).ok().and_then(|model| model.probabilities(&sequence).ok()) else { return };
+    let distance = (found.iter().sum::<f64>() - 1.0).abs();
+    let tolerance = [distance, distance.next_up(), distance.next_down()][rng.index(3)];
+    if tolerance.is_finite() && tolerance > 0.0 {
+        words[1] = tolerance.to_bits();
+    }
+}
+
 pub fn diagnostics(rng: &mut Rng) -> Vec<u64> {
     let mut head = shape(7, rng);
     head.records = rng.pick(&[0, 1, 1, 2, 3, 5, 9]);
+    match rng.below(200) {
+        0 | 1 => head.d = 0,
+        2 | 3 => head.effects = 0,
+        4 if head.d <= 4 && head.gates > 0 => head.records = 200,
+        _ => {}
+    }
     let tolerance = match rng.below(8) {
         0 => numbers::tolerance(rng),
         1 => rng.unit(),
@@ -139,14 +178,30 @@ pub fn diagnostics(rng: &mut Rng) -> Vec<u64> {
     let mut words = vec![head.word(), tolerance.to_bits()];
     words.extend(model(&head, rng));
     let longest = rng.pick(&[3, 3, 8, 64]);
-    words.extend(records(&head, longest, rng));
+    let first = words.len();
+    words.extend(records(&head, longest.min(400 / head.records.max(1)), rng));
+    if head.records == 200 {
+        // One record without counts would refuse them all.
+        words[first..].chunks_mut(5 + head.effects).for_each(|record| record[5..].fill(7));
+    } else if rng.chance(8) && head.records > 0 && head.effects > 0 {
+        counts_at_the_limit(&mut words, first, &head, rng);
+    }
+    if rng.chance(6) && head.records > 0 && head.effects > 0 && head.d > 0 {
+        tolerance_at_sum(&mut words, &head, rng);
+        return words;
+    }
     if rng.chance(8) {
         spoil_model(&mut words, 2, &head, rng);
     }
-    if rng.chance(10) && head.effects >= 2 {
-        // Probabilities at the edges: 0, the smallest number, -0, just below 0 or above 1.
-        let edge = rng.pick(&[0.0, -0.0, 5e-324, -tolerance, tolerance, 1e-300]);
-        for (k, x) in [edge, 1.0 - edge].into_iter().enumerate() {
+    if rng.chance(15) && head.effects >= 2 && head.d > 0 {
+        // Probabilities at the edges: 0, the smallest number, -0, just below 0 or above 1, and the tolerance's neighbours.
+        let (low, high) = (-tolerance, 1.0 + tolerance);
+        let edge = rng.pick(&[0.0, -0.0, 5e-324, 5e-324, low, low.next_up(), low.next_down(), tolerance, 1e-300]);
+        let other = match rng.below(4) {
+            0 => rng.pick(&[high, high.next_up(), high.next_down()]),
+            _ => 1.0 - edge,
+        };
+        for (k, x) in [edge, other].into_iter().enumerate() {
             words[2 + head.d + k * head.d] = numbers::settled(x).to_bits();
         }
         for k in 0..head.effects {
@@ -154,6 +209,13 @@ pub fn diagnostics(rng: &mut Rng) -> Vec<u64> {
                 if i > 0 || k > 1 {
                     words[2 + head.d + k * head.d + i] = 0;
                 }
+            }
+        }
+        if rng.chance(40) {
+            // Counts only where the probability is not clamped to 0.
+            for record in words[first..].chunks_mut(5 + head.effects) {
+                record[5..].fill(0);
+                record[6] = rng.between(1, 100);
             }
         }
     }
@@ -197,6 +259,20 @@ fn any_model(head: &Head, rng: &mut Rng) -> Vec<u64> {
         .to_bits();
     }
     words
+}
+
+/// A model's shape, names and numbers, for a call of `probabilities`.
+pub fn model_parts(rng: &mut Rng) -> (Head, Vec<u64>, Vec<f64>) {
+    let head = gauge_shape(rng);
+    let words = if rng.chance(40) { any_model(&head, rng) } else { model(&head, rng) };
+    let (vectors, gates) = words.split_at(head.d + head.effects * head.d);
+    let mut numbers: Vec<f64> = vectors.iter().map(|&word| f64::from_bits(word)).collect();
+    let mut names = Vec::new();
+    for gate in gates.chunks(1 + head.d * head.d) {
+        names.push(gate[0]);
+        numbers.extend(gate[1..].iter().map(|&word| f64::from_bits(word)));
+    }
+    (head, names, numbers)
 }
 
 /// The Rust's threshold for a transform of this scale.
@@ -343,7 +419,7 @@ pub fn gauge(rng: &mut Rng) -> Vec<u64> {
     words
 }
 
-fn coordinate(head: &Head, rng: &mut Rng) -> u64 {
+pub fn coordinate(head: &Head, rng: &mut Rng) -> u64 {
     let d = head.d as u64;
     let far = rng.below(400) == 0;
     match rng.below(4) {
@@ -361,62 +437,4 @@ fn coordinate(head: &Head, rng: &mut Rng) -> u64 {
             3 << 60 | gate << 48 | row << 24 | column
         }
     }
-}
-
-/// A valid card may ask for 65,535 iterations. One in ten of those is enough.
-pub fn limit_cost(words: &mut [u64], rng: &mut Rng) {
-    if words.len() > 1 && words[0] >> 60 == 5 && (1000..65_536).contains(&words[1]) && rng.chance(90) {
-        words[1] = 200;
-    }
-}
-
-pub fn fit(rng: &mut Rng) -> Vec<u64> {
-    let mut head = shape(5, rng);
-    head.records = rng.pick(&[1, 1, 2, 3, 4, 6]);
-    head.coordinates = rng.pick(&[1, 1, 2, 2, 3, 4, 6]);
-    match rng.below(60) {
-        0 => head.records = 0,
-        1 => head.coordinates = 0,
-        _ => {}
-    }
-    let control = |rng: &mut Rng, usual: f64, list: &[f64]| match rng.below(12) {
-        0 => rng.pick(list),
-        1 => usual * power(rng.below(9) as i64 - 4),
-        _ => usual,
-    };
-    let mut words = vec![
-        head.word(),
-        rng.pick(&[1, 1, 2, 3, 4, 6, 10]),
-        control(rng, 0.1, &[1.0, 1e-3, 1e-6, 1e300]).to_bits(),
-        control(rng, 1e-5, &[1e-2, 0.5, 1e-12, 1e-17, 1e300]).to_bits(),
-        control(rng, 1e-8, &[1.0, 10.0, 1e3, 1e-300]).to_bits(),
-        control(rng, 1e-12, &[1e-3, 1.0, 5e-324]).to_bits(),
-        rng.pick(&[1e-9f64, 1e-9, 1e-4, 1e-2, 0.25, 1e-15]).to_bits(),
-        rng.pick(&[24, 24, 1, 2, 5, 60]),
-        rng.pick(&[0.0f64, 0.0, 1e-3, 1.0, 100.0, -0.0]).to_bits(),
-    ];
-    if rng.chance(3) {
-        let place = rng.between(1, 8) as usize;
-        words[place] = if place == 1 || place == 7 { 0 } else { numbers::special(rng).to_bits() };
-    }
-    let at = words.len();
-    words.extend(model(&head, rng));
-    if rng.chance(4) {
-        spoil_model(&mut words, at, &head, rng);
-    }
-    let longest = rng.pick(&[2, 4, 4, 12]);
-    words.extend(records(&head, longest, rng));
-    let first = words.len();
-    for _ in 0..head.coordinates {
-        words.push(coordinate(&head, rng));
-    }
-    // Repeats by chance are frequent in small models; keep only some of them.
-    for k in first..words.len() {
-        let mut tries = 0;
-        while words[first..k].contains(&words[k]) && tries < 8 && rng.chance(95) {
-            words[k] = coordinate(&head, rng);
-            tries += 1;
-        }
-    }
-    words
 }

@@ -4,6 +4,7 @@ pub mod arguments;
 pub mod calls;
 pub mod damage;
 mod density;
+pub mod fits;
 pub mod fixed;
 mod gate_set;
 pub mod numbers;
@@ -22,7 +23,7 @@ pub fn card_of_kind(kind: u8, rng: &mut Rng) -> Vec<u64> {
         2 => projection::card(rng),
         3 => transfer::process(rng),
         4 => transfer::physical(rng),
-        5 => gate_set::fit(rng),
+        5 => fits::card(rng),
         6 => gate_set::gauge(rng),
         7 => gate_set::diagnostics(rng),
         _ => panic!("no kind {kind}"),
@@ -45,7 +46,7 @@ pub fn card(kind: u8, rng: &mut Rng) -> Vec<u8> {
             _ => damage::poison(&mut words, rng),
         }
     }
-    gate_set::limit_cost(&mut words, rng);
+    fits::limit_cost(&mut words, rng);
     let mut bytes = bytes_of(&words);
     for _ in 0..in_bytes {
         bytes = damage::damage(bytes, rng);
