@@ -1,0 +1,1 @@
+"""Cards and sheets for people: layout, descriptions, sheets, refusals. docs/CARD.md has the format."""
