@@ -58,9 +58,10 @@ pub fn cards() -> Vec<(&'static str, Vec<u64>)> {
     list
 }
 
-/// The usual experiment on one qubit: the six fiducials and the eleven germs of the gate set of Gi, Gx and Gy (Nielsen and others, "Gate
-/// set tomography", Quantum 5, 557, 2021; pyGSTi's `std1Q_XYI`). A sequence is a fiducial, a germ repeated to a length of at most L = 1,
-/// 2, 4, .. 32, and a fiducial. Four of the 36 pairs of fiducials for each, in turn, since a card has room for 200 records.
+/// The usual experiment on one qubit with the gates Gi, Gx and Gy: six fiducials and eleven germs as gate set tomography has them (Nielsen and
+/// others, Quantum 5, 557, 2021; pyGSTi's `std1Q_XYI`), written down from memory, since neither was at hand. A sequence is a fiducial, a germ
+/// repeated to a length of at most L = 1, 2, 4, .. 32, and a fiducial. Which four of the 36 pairs of fiducials each has is this file's choice: a
+/// card has room for 200 records.
 fn design() -> Vec<Vec<u64>> {
     let gates = |names: &str| names.bytes().map(|name| b"ixy".iter().position(|&gate| gate == name).unwrap() as u64).collect::<Vec<_>>();
     let fiducials = ["", "x", "y", "xx", "xxx", "yyy"].map(gates);
