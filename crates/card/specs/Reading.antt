@@ -26,7 +26,7 @@ header s = headerOf (wordAt s 0)
 unfoldable pub examined : List ℕ → List Role
 examined s = cond (qubitsBreak (header s)) (word0 ∷ []) (layout (header s))
 
--- place p is one of a word that is there and has a place in the layout, and the word breaks its rule
+-- at place p a present word of the layout breaks its rule
 -- (past the layout `getD` gives `number`, which has no rule)
 unfoldable pub wordAtFault : List ℕ → ℕ → Bool
 wordAtFault s p = faulty s p (getD (examined s) p number)

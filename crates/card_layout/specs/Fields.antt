@@ -7,7 +7,7 @@ use Rattle.card_layout.specs.declared.Coordinate.{Coordinate}
 abbrev pub bits : ℕ → ℕ → ℕ → ℕ
 bits w low n = w / 2 ^ low % 2 ^ n
 
--- word 0: kind 4 bits, qubits n 4, dimension d 8, effects 8, gates 8, records 16, coordinates 8, zero 8
+-- word 0, whose last 8 bits are zero
 abbrev pub headerOf : ℕ → Header
 headerOf w =
     record {
@@ -21,7 +21,7 @@ headerOf w =
       rest = w % 2 ^ 8;
     }
 
--- a coordinate: kind 4 bits, outcome or gate 12, row 24, index or column 24
+-- a coordinate: `which` is an outcome or a gate, `column` an index or a column
 abbrev pub coordinateOf : ℕ → Coordinate
 coordinateOf w =
     record {

@@ -30,7 +30,7 @@ times (suc n) part = times n part ++ part
 abbrev pub numbers : ℕ → List Role
 numbers n = times n (number ∷ [])
 
--- d state numbers, each effect, then each gate as a name word and d·d numbers
+-- the state, the effects, and the gates, each after its name
 unfoldable pub modelRoles : ℕ → ℕ → ℕ → List Role
 modelRoles d e g = numbers d ++ (times e (numbers d) ++ times g (name ∷ numbers (d * d)))
 

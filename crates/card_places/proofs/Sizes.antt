@@ -1,9 +1,9 @@
 -- How large the parts of a card can be. Assumes nothing.
-use Prim.Native.Nat.{ℕ, zero, suc, _%_, _+_, _*_, _^_, _≤_}
+use Prim.Native.Nat.{ℕ, _+_, _*_, _^_, _≤_}
 use mathlib.Core.Path.{_≡_, refl, ap, subst, _∙_}
 use mathlib.Core.Bool.{false}
-use lib.Dec.{lit≤, lit<}
-use native.Mathlib.Nat.{mul-le-mul, pow-le-pow-right}
+use lib.Dec.{lit<}
+use native.Mathlib.Nat.{pow-le-pow-right}
 use native.Mathlib.Omega.{arith}
 use Rattle.sizes.proofs.Small.{product-le, four-shift}
 use Rattle.card_layout.specs.declared.Header.{Header}

@@ -6,12 +6,17 @@ use native.Mathlib.Omega.{arith}
 use lib.Dec.{lit<}
 use lib.Pow.{pow-mono, pow-pos}
 use Rattle.lists.proofs.Parts.{entry-fits, row-of, column-of}
+use Rattle.sizes.proofs.Small.{square-most, four-most}
 use Rattle.pauli.proofs.Entries.{below-four}
 use Rattle.choi.specs.Choi.{rowAt, columnAt, onPlace}
 use Rattle.choi.specs.Sparse.{Sides, placeOf}
 
 pub four-is : (n : ℕ) → n ≤ 2 → 4 ^ n ≡ 2 ^ n * 2 ^ n
 four-is n h = below-four (λ n. 4 ^ n ≡ 2 ^ n * 2 ^ n) refl refl refl refl n (omega arith)
+
+-- how many there are at most
+pub parts-most : (n : ℕ) → n ≤ 2 → 2 * (4 ^ n * 4 ^ n) ≤ 512
+parts-most n h = omega (arith, square-most (4 ^ n) (four-most n h))
 
 pub square-is : (n d p : ℕ) → Sides n d p → p ≡ d * d
 square-is n d p s = s .strings ∙ four-is n (s .few) ∙ sym (ap₂ (λ (x y : ℕ). x * y) (s .side) (s .side))

@@ -1,23 +1,22 @@
 -- What is at least a number's bound is not below its magnitude. Assumes nothing.
 use mathlib.Core.Path.{_≡_, refl, sym, _∙_, ap, subst}
-use mathlib.Core.Bool.{Bool, true, false, cond, _&&_, _||_, Bool·beq}
+use mathlib.Core.Bool.{Bool, true, false, cond}
 use Prim.Native.Nat.{ℕ, zero, suc, _+_, _*_, _^_, _<_, _≤_}
 use native.Mathlib.Nat.{le-trans, le-of-eq, le-of-lt, lt-of-lt-of-le, zero-mul, mul-one, one-mul, mul-comm, mul-assoc, mul-right-comm, mul-mul-mul-comm, mul-pos, mul-le-mul-left, mul-le-mul-right, le-of-mul-le-mul-right, zero-lt-suc}
 use native.Mathlib.Omega.{arith}
 use lib.IntN.{ℤ, pos, negsuc}
-use lib.Dec.{T, ltb, eqb, lit<, lit≤}
+use lib.Dec.{T, ltb, lit<, lit≤}
 use lib.Pow.{pow-pos}
-use lib.Ieee.{Float, nan, inf, fin, binary64, up, down, size, odd, units, round, add, mul, div, fits, le, lt, eq, isNan, ofBits}
+use lib.Ieee.{Float, nan, inf, fin, binary64, up, down, size, odd, units, round, mul, fits, le, lt, eq, isNan, ofBits}
 use lib.Ieee.Bits.{is-true}
 use lib.Ieee.Exact.{HasValue}
 use lib.Ieee.Fits.{up-pos, down-pos, add-fits}
 use lib.Ieee.Order.{round-mono}
-use lib.Ieee.Positive.{first-pos}
-use borrow.Author.Tests.{ltb-true, ltb-false, lt-ltb, le-ltb, ne-eqb}
+use borrow.Author.Tests.{ltb-true, ltb-false, ne-eqb}
 use Rattle.numbers.specs.Number.{number, finite, negative, abs, max, zeroF, oneF, _+ᶠ_, _*ᶠ_, _/ᶠ_}
 use Rattle.numbers.proofs.Leaves.{clash, nought}
 use Rattle.numbers.proofs.Order.{not-above, not-past}
-use Rattle.rounding.specs.Units.{U, unitsOf}
+use Rattle.rounding.specs.Units.{U}
 use Rattle.rounding.proofs.Zeros.{round-zero}
 use Rattle.rounding.proofs.Operations.{mul-at}
 use Rattle.rounding.proofs.Below.{Below, above, le-cross, div-below, mul-below, sum-of, add-below, mul-positive, mul-le}

@@ -30,7 +30,7 @@ conjugate x = record { re = x .re; im = Ieee.neg (x .im) }
 unfoldable pub min : Float → Float → Float
 min x y = cond (Ieee.isNan x) y (cond (Ieee.isNan y) x (cond (Ieee.lt y x) y x))
 
--- m·sqrt(1 + (s/m)²), m the larger and s the smaller part without sign; 0 if m is 0
+-- m·sqrt(1 + (s/m)²), where m is the size of the larger part and s that of the smaller one; 0 where m is 0
 unfoldable pub magnitude : Complex → Float
 magnitude z =
     let m = max (abs (z .re)) (abs (z .im)) in

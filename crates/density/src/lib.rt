@@ -1,5 +1,6 @@
 // The density matrix nearest to an estimate (kind 2).
 use complex::Complex;
+use eigen::matrix_room;
 use refusal::Refusal;
 use refusal::Verdict;
 use sizes::square;
@@ -142,13 +143,6 @@ fn project_onto(
             Verdict::Good
         }
     }
-}
-
-// Room for the parts of a matrix.
-fn matrix_room() -> [f64; 512]
-    ensures { λ r. ⌜ length r ≡ 512 ⌝ }
-{
-    [0.0; 512]
 }
 
 // The projection at the front of `out`, once estimate and tolerance are admitted.

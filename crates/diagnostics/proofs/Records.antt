@@ -1,7 +1,7 @@
 -- One record: its gates by columns, what stands in its rooms, and what it gives. Assumes nothing.
 use Prim.Native.Nat.{ℕ, _+_, _*_, _≤_, _<_}
-use mathlib.Core.Path.{_≡_, sym, _∙_, ap}
-use mathlib.Core.Bool.{Bool}
+use mathlib.Core.Path.{_≡_, refl, sym, _∙_, ap}
+use mathlib.Core.Bool.{Bool, true, false≢true}
 use mathlib.Core.List.{List, [], _++_, append-nil}
 use native.Mathlib.Omega.{arith}
 use lib.ListN.{length, getD, take, drop}
@@ -19,9 +19,9 @@ use Rattle.gate_set.proofs.Columns.{length-columns-in, length-probabilities, le
 use Rattle.gate_set.proofs.Sequences.{present-below}
 use Rattle.likelihood.specs.declared.Diagnostics.{Diagnostics}
 use Rattle.likelihood.specs.declared.Likelihood.{Likelihood}
-use Rattle.likelihood.specs.declared.Likelihood.the-variants.{Refused}
-use Rattle.likelihood.specs.Multinomial.{withRecord}
-use Rattle.diagnostics.specs.Diagnostics.{countsOf, recordOnward}
+use Rattle.likelihood.specs.declared.Likelihood.the-variants.{Fit, Failed, Refused}
+use Rattle.likelihood.specs.Multinomial.{onward, withRecord}
+use Rattle.diagnostics.specs.Diagnostics.{countsOf, recordOnward, ended}
 use Rattle.diagnostics.proofs.Loading.{length-counts}
 
 module _ (d e gates : ℕ) (m columns : List Float) (sequence : List ℕ) (q : columns ≡ columnsIn d e gates m) (p : presentOf gates sequence ≡ verdict.Good) where
@@ -46,19 +46,32 @@ module _ (s : List ℕ) (h : Header) (r : ℕ) (m columns : List Float) (sequenc
   pub one-for-each : length (take (h .effects) cs) ≤ length (take (h .effects) ps)
   one-for-each = omega (arith, ap length counts-lent, length-counts s h r, ap length probabilities-are, length-probabilities (h .dimension) (h .effects) m sequence)
 
-  pub weighed : (log : Float → Float) (b : Bool) (tolerance : Float) (d : Diagnostics) (l : Likelihood) → l ≡ withRecord log b tolerance (take (h .effects) cs) (take (h .effects) ps) d
-      → l ≡ withRecord log b tolerance (countsOf s h r) (probabilitiesOf (h .dimension) (h .effects) m sequence) d
-  weighed log b tolerance d l e = e ∙ rw (counts-lent, probabilities-are)
+  -- after the likelihood k of the records before it
+  pub weighed : (log : Float → Float) (b : Bool) (tolerance : Float) (k l : Likelihood) → l ≡ onward (withRecord log b tolerance (take (h .effects) cs) (take (h .effects) ps)) k
+      → l ≡ onward (withRecord log b tolerance (countsOf s h r) (probabilitiesOf (h .dimension) (h .effects) m sequence)) k
+  weighed log b tolerance k l e = e ∙ rw (counts-lent, probabilities-are)
 
--- the verdict v on record r's sequence
-module _ (log : Float → Float) (b : Bool) (tolerance : Float) (s : List ℕ) (h : Header) (m : List Float) (r : ℕ) (d : Diagnostics) (sequence : List ℕ) (v : Verdict) (e : sequence ≡ sequenceOf s h r) (c : v ≡ presentOf (h .gates) sequence) where
-  by-verdict : (l : Likelihood) → l ≡ after v Refused (withRecord log b tolerance (countsOf s h r) (probabilitiesOf (h .dimension) (h .effects) m sequence) d) → l ≡ recordOnward log b tolerance s h m r d
+module _ (f g : Diagnostics → Likelihood) (e : (d : Diagnostics) → f d ≡ g d) where
+  onward-same : (l : Likelihood) → onward f l ≡ onward g l
+  onward-same (Fit d) = e d
+  onward-same Failed = refl
+  onward-same (Refused r) = refl
+
+-- nothing follows what has ended
+pub onward-ended : (f : Diagnostics → Likelihood) (l : Likelihood) → ended l ≡ true → l ≡ onward f l
+onward-ended f (Fit d) e = absurd (false≢true e)
+onward-ended f Failed e = refl
+onward-ended f (Refused r) e = refl
+
+-- the verdict v on record r's sequence, after the likelihood k of the records before it
+module _ (log : Float → Float) (b : Bool) (tolerance : Float) (s : List ℕ) (h : Header) (m : List Float) (r : ℕ) (sequence : List ℕ) (v : Verdict) (e : sequence ≡ sequenceOf s h r) (c : v ≡ presentOf (h .gates) sequence) where
+  by-verdict : (d : Diagnostics) → after v Refused (withRecord log b tolerance (countsOf s h r) (probabilitiesOf (h .dimension) (h .effects) m sequence) d) ≡ recordOnward log b tolerance s h m r d
   unfolding recordOnward
-  by-verdict l g = g ∙ rw (c, e)
+  by-verdict d = rw (c, e)
 
-  pub absent : (x : Refusal) → v ≡ verdict.Refused x → Refused x ≡ recordOnward log b tolerance s h m r d
-  absent x g = by-verdict (Refused x) (rw g)
+  pub absent : (x : Refusal) → v ≡ verdict.Refused x → (k l : Likelihood) → l ≡ onward (λ _. Refused x) k → l ≡ onward (recordOnward log b tolerance s h m r) k
+  absent x g k l f = f ∙ onward-same _ _ (λ d. rw g at (by-verdict d)) k
 
-  pub present : (l : Likelihood) → v ≡ verdict.Good → l ≡ withRecord log b tolerance (countsOf s h r) (probabilitiesOf (h .dimension) (h .effects) m sequence) d
-      → l ≡ recordOnward log b tolerance s h m r d
-  present l g f = by-verdict l (rw g f)
+  pub present : v ≡ verdict.Good → (k l : Likelihood) → l ≡ onward (withRecord log b tolerance (countsOf s h r) (probabilitiesOf (h .dimension) (h .effects) m sequence)) k
+      → l ≡ onward (recordOnward log b tolerance s h m r) k
+  present g k l f = f ∙ onward-same _ _ (λ d. rw g at (by-verdict d)) k

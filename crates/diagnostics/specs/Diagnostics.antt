@@ -1,7 +1,9 @@
 -- The likelihood of a card's records under a model (the Rust's `fit_diagnostics_with_tolerance`): record by record, all of one before any of the next.
-use Prim.Native.Nat.{ℕ}
-use mathlib.Core.Bool.{Bool}
+use Prim.Native.Nat.{ℕ, _≤_}
+use mathlib.Core.Path.{_≡_}
+use mathlib.Core.Bool.{Bool, true, false}
 use mathlib.Core.List.{List}
+use lib.ListN.{length}
 use lib.Ieee.{Float}
 use Rattle.lists.specs.Build.{build}
 use Rattle.lists.specs.Fold.{fold}
@@ -10,10 +12,11 @@ use Rattle.logarithm.specs.Steps.{ln}
 use Rattle.refusal.specs.Verdicts.{after}
 use Rattle.card_layout.specs.declared.Header.{Header}
 use Rattle.card_parts.specs.Parts.{sequenceOf, countIn}
-use Rattle.gate_set.specs.GateSet.{presentOf, probabilitiesOf}
+use Rattle.model_words.specs.Words.{modelNumbers}
+use Rattle.gate_set.specs.GateSet.{presentOf, probabilitiesOf, columnsIn}
 use Rattle.likelihood.specs.declared.Diagnostics.{Diagnostics}
 use Rattle.likelihood.specs.declared.Likelihood.{Likelihood}
-use Rattle.likelihood.specs.declared.Likelihood.the-variants.{Fit, Refused}
+use Rattle.likelihood.specs.declared.Likelihood.the-variants.{Fit, Failed, Refused}
 use Rattle.likelihood.specs.Multinomial.{onward, withRecord}
 
 -- record r's counts, one for each effect
@@ -37,3 +40,15 @@ module _ (log : Float → Float) (deviance : Bool) (tolerance : Float) (s : List
 -- with document 01's logarithm
 abbrev pub likelihoodOf : Bool → Float → List ℕ → Header → List Float → Likelihood
 likelihoodOf deviance tolerance s h m = likelihoodBy ln deviance tolerance s h m
+
+-- ---- what the code is lent, and when it may stop
+
+-- a model's numbers and its gates by columns
+abbrev pub Columned : Header → List Float → List Float → Type 0
+Columned h m columns = (modelNumbers h ≤ length m) × (columns ≡ columnsIn (h .dimension) (h .effects) (h .gates) m)
+
+-- no record changes it any more
+abbrev pub ended : Likelihood → Bool
+ended (Fit d) = false
+ended Failed = true
+ended (Refused r) = true

@@ -1,10 +1,11 @@
-// The likelihood of a card's records under a model.
+// The likelihood of a card's records under a model, or under two models in one pass.
 use card_layout::Header;
 use card_parts::count_in;
 use card_parts::gate_in;
 use card_parts::sequence_length;
 use likelihood::Diagnostics;
 use likelihood::Likelihood;
+use refusal::Refusal;
 use refusal::Verdict;
 ghost use mathlib.Core.Path.{_≡_};
 ghost use Prim.Native.Nat.{ℕ, _*_, _≤_, _<_};
@@ -17,7 +18,9 @@ ghost use Rattle.model_words.specs.Words.{modelNumbers};
 ghost use Rattle.gate_set.specs.GateSet.{columnsIn, presentOf, probabilitiesOf};
 ghost use Rattle.likelihood.specs.Multinomial.{onward, withRecord};
 ghost use Rattle.refusal.specs.declared.Verdict.the-variants.{Good};
-ghost use Rattle.diagnostics.specs.Diagnostics.{countsOf, recordOnward, likelihoodBy, likelihoodOf};
+ghost use Rattle.likelihood.specs.declared.Likelihood.the-variants.{Refused};
+ghost use mathlib.Core.Bool.{false};
+ghost use Rattle.diagnostics.specs.Diagnostics.{countsOf, recordOnward, likelihoodBy, likelihoodOf, Columned, ended};
 
 // Record r's sequence, at the front of `out`.
 fn load_sequence(card: &[u8], h: Header, r: usize, n: usize, out: &mut [usize])
@@ -75,7 +78,7 @@ fn weigh_record<'a>(
     ps: &mut [f64],
     d: Diagnostics,
 ) -> Likelihood
-    requires { ⌜ Shaped (now card) h × (r < h .records) × (modelNumbers h ≤ length (now model)) × (now columns ≡ columnsIn (h .dimension) (h .effects) (h .gates) (now model)) × (presentOf (h .gates) (now sequence) ≡ Good) × (16 ≤ length (now counts)) × (16 ≤ length (now ps)) ⌝ }
+    requires { ⌜ Shaped (now card) h × (r < h .records) × Columned h (now model) (now columns) × (presentOf (h .gates) (now sequence) ≡ Good) × (16 ≤ length (now counts)) × (16 ≤ length (now ps)) ⌝ }
     ensures { λ l. ⌜ l ≡ withRecord (lnBy (entriesOf (now (quotients .entry))) (entriesOf (now (remainders .entry)))) deviance tolerance (countsOf (now (card .entry)) h r) (probabilitiesOf (h .dimension) (h .effects) (now (model .entry)) (now (sequence .entry))) d ⌝ }
 {
     let e = h.effects;
@@ -108,7 +111,7 @@ fn add_record<'a>(
     ps: &mut [f64],
     d: Diagnostics,
 ) -> Likelihood
-    requires { ⌜ Shaped (now card) h × Sequence (now card) h r × (modelNumbers h ≤ length (now model)) × (now columns ≡ columnsIn (h .dimension) (h .effects) (h .gates) (now model)) × (64 ≤ length (now sequence)) × (16 ≤ length (now counts)) × (16 ≤ length (now ps)) ⌝ }
+    requires { ⌜ Shaped (now card) h × Sequence (now card) h r × Columned h (now model) (now columns) × (64 ≤ length (now sequence)) × (16 ≤ length (now counts)) × (16 ≤ length (now ps)) ⌝ }
     ensures { λ l. ⌜ l ≡ recordOnward (lnBy (entriesOf (now (quotients .entry))) (entriesOf (now (remainders .entry)))) deviance tolerance (now (card .entry)) h (now (model .entry)) r d ⌝ }
 {
     let n = sequence_length(card, h, r);
@@ -150,7 +153,7 @@ fn record_onward<'a>(
     ps: &mut [f64],
     l: Likelihood,
 ) -> Likelihood
-    requires { ⌜ Shaped (now card) h × Sequence (now card) h r × (modelNumbers h ≤ length (now model)) × (now columns ≡ columnsIn (h .dimension) (h .effects) (h .gates) (now model)) × (64 ≤ length (now sequence)) × (16 ≤ length (now counts)) × (16 ≤ length (now ps)) ⌝ }
+    requires { ⌜ Shaped (now card) h × Sequence (now card) h r × Columned h (now model) (now columns) × (64 ≤ length (now sequence)) × (16 ≤ length (now counts)) × (16 ≤ length (now ps)) ⌝ }
     ensures { λ m. ⌜ m ≡ onward (recordOnward (lnBy (entriesOf (now (quotients .entry))) (entriesOf (now (remainders .entry)))) deviance tolerance (now (card .entry)) h (now (model .entry)) r) l ⌝ }
 {
     match l {
@@ -187,7 +190,7 @@ fn add_records<'a>(
     counts: &mut [u64],
     ps: &mut [f64],
 ) -> Likelihood
-    requires { ⌜ Shaped (now card) h × ((r : ℕ) → r < h .records → Sequence (now card) h r) × (modelNumbers h ≤ length (now model)) × (now columns ≡ columnsIn (h .dimension) (h .effects) (h .gates) (now model)) × (64 ≤ length (now sequence)) × (16 ≤ length (now counts)) × (16 ≤ length (now ps)) ⌝ }
+    requires { ⌜ Shaped (now card) h × ((r : ℕ) → r < h .records → Sequence (now card) h r) × Columned h (now model) (now columns) × (64 ≤ length (now sequence)) × (16 ≤ length (now counts)) × (16 ≤ length (now ps)) ⌝ }
     ensures { λ l. ⌜ l ≡ likelihoodBy (lnBy (entriesOf (now (quotients .entry))) (entriesOf (now (remainders .entry)))) deviance tolerance (now (card .entry)) h (now (model .entry)) ⌝ }
 {
     let count = h.records;
@@ -247,5 +250,308 @@ pub fn fit_diagnostics(
         &mut sequence,
         &mut counts,
         &mut ps,
+    )
+}
+
+// The likelihoods of two models.
+pub struct Both {
+    pub first: Likelihood,
+    pub second: Likelihood,
+}
+
+// One record more, of these counts and probabilities, where all before it passed.
+fn weigh_onward<'a>(
+    quotients: &'a [u64; 257],
+    remainders: &'a [u64; 257],
+    tolerance: f64,
+    counts: &[u64],
+    ps: &[f64],
+    l: Likelihood,
+) -> Likelihood
+    requires { ⌜ length (now counts) ≤ length (now ps) ⌝ }
+    ensures { λ m. ⌜ m ≡ onward (withRecord (lnBy (entriesOf (now (quotients .entry))) (entriesOf (now (remainders .entry)))) false tolerance (now (counts .entry)) (now (ps .entry))) l ⌝ }
+{
+    match l {
+        Likelihood::Fit(d) => {
+            likelihood::with_record(quotients, remainders, false, tolerance, counts, ps, d)
+        }
+        Likelihood::Failed => Likelihood::Failed,
+        Likelihood::Refused(x) => Likelihood::Refused(x),
+    }
+}
+
+// The same for both models.
+fn weigh_each<'a>(
+    quotients: &'a [u64; 257],
+    remainders: &'a [u64; 257],
+    tolerance: f64,
+    counts: &[u64],
+    ps: &[f64],
+    qs: &[f64],
+    b: Both,
+) -> Both
+    requires { ⌜ (length (now counts) ≤ length (now ps)) × (length (now counts) ≤ length (now qs)) ⌝ }
+    ensures { λ q. ⌜ (q .first ≡ onward (withRecord (lnBy (entriesOf (now (quotients .entry))) (entriesOf (now (remainders .entry)))) false tolerance (now (counts .entry)) (now (ps .entry))) (b .first)) × (q .second ≡ onward (withRecord (lnBy (entriesOf (now (quotients .entry))) (entriesOf (now (remainders .entry)))) false tolerance (now (counts .entry)) (now (qs .entry))) (b .second)) ⌝ }
+{
+    let l = b.first;
+    let m = b.second;
+    let first = weigh_onward(quotients, remainders, tolerance, counts, ps, l);
+    let second = weigh_onward(quotients, remainders, tolerance, counts, qs, m);
+    Both { first, second }
+}
+
+// Record r, whose gates are all there, under both models.
+fn weigh_both<'a>(
+    quotients: &'a [u64; 257],
+    remainders: &'a [u64; 257],
+    tolerance: f64,
+    card: &[u8],
+    h: Header,
+    r: usize,
+    model: &[f64],
+    columns: &[f64],
+    other: &[f64],
+    others: &[f64],
+    sequence: &[usize],
+    counts: &mut [u64],
+    ps: &mut [f64],
+    qs: &mut [f64],
+    b: Both,
+) -> Both
+    requires { ⌜ Shaped (now card) h × (r < h .records) × Columned h (now model) (now columns) × Columned h (now other) (now others) × (presentOf (h .gates) (now sequence) ≡ Good) × (16 ≤ length (now counts)) × (16 ≤ length (now ps)) × (16 ≤ length (now qs)) ⌝ }
+    ensures { λ q. ⌜ (q .first ≡ onward (withRecord (lnBy (entriesOf (now (quotients .entry))) (entriesOf (now (remainders .entry)))) false tolerance (countsOf (now (card .entry)) h r) (probabilitiesOf (h .dimension) (h .effects) (now (model .entry)) (now (sequence .entry)))) (b .first))
+        × (q .second ≡ onward (withRecord (lnBy (entriesOf (now (quotients .entry))) (entriesOf (now (remainders .entry)))) false tolerance (countsOf (now (card .entry)) h r) (probabilitiesOf (h .dimension) (h .effects) (now (other .entry)) (now (sequence .entry)))) (b .second)) ⌝ }
+{
+    let e = h.effects;
+    load_counts(card, h, r, counts);
+    gate_set::probabilities_both(
+        model,
+        columns,
+        other,
+        others,
+        sequence,
+        h.dimension,
+        e,
+        ps,
+        qs,
+    );
+    weigh_each(
+        quotients,
+        remainders,
+        tolerance,
+        &counts[..e],
+        &ps[..e],
+        &qs[..e],
+        b,
+    )
+}
+
+// A refusal, where all before it passed.
+fn refuse_onward(x: Refusal, l: Likelihood) -> Likelihood
+    ensures { λ m. ⌜ m ≡ onward (λ _. Refused x) l ⌝ }
+{
+    match l {
+        Likelihood::Fit(_) => Likelihood::Refused(x),
+        Likelihood::Failed => Likelihood::Failed,
+        Likelihood::Refused(y) => Likelihood::Refused(y),
+    }
+}
+
+// Record r under both models, where all records before it passed.
+fn add_both<'a>(
+    quotients: &'a [u64; 257],
+    remainders: &'a [u64; 257],
+    tolerance: f64,
+    card: &[u8],
+    h: Header,
+    r: usize,
+    model: &[f64],
+    columns: &[f64],
+    other: &[f64],
+    others: &[f64],
+    sequence: &mut [usize],
+    counts: &mut [u64],
+    ps: &mut [f64],
+    qs: &mut [f64],
+    b: Both,
+) -> Both
+    requires { ⌜ Shaped (now card) h × Sequence (now card) h r × Columned h (now model) (now columns) × Columned h (now other) (now others) × (64 ≤ length (now sequence)) × (16 ≤ length (now counts)) × (16 ≤ length (now ps)) × (16 ≤ length (now qs)) ⌝ }
+    ensures { λ q. ⌜ (q .first ≡ onward (recordOnward (lnBy (entriesOf (now (quotients .entry))) (entriesOf (now (remainders .entry)))) false tolerance (now (card .entry)) h (now (model .entry)) r) (b .first)) × (q .second ≡ onward (recordOnward (lnBy (entriesOf (now (quotients .entry))) (entriesOf (now (remainders .entry)))) false tolerance (now (card .entry)) h (now (other .entry)) r) (b .second)) ⌝ }
+{
+    let n = sequence_length(card, h, r);
+    load_sequence(card, h, r, n, sequence);
+    let found = gate_set::check_sequence(&sequence[..n], h.gates);
+    match found {
+        Verdict::Refused(x) => {
+            let l = b.first;
+            let m = b.second;
+            let first = refuse_onward(x, l);
+            let second = refuse_onward(x, m);
+            Both { first, second }
+        }
+        Verdict::Good => weigh_both(
+            quotients,
+            remainders,
+            tolerance,
+            card,
+            h,
+            r,
+            model,
+            columns,
+            other,
+            others,
+            &sequence[..n],
+            counts,
+            ps,
+            qs,
+            b,
+        ),
+    }
+}
+
+fn has_ended(l: Likelihood) -> bool
+    ensures { λ r. ⌜ r ≡ ended l ⌝ }
+{
+    match l {
+        Likelihood::Fit(_) => false,
+        Likelihood::Failed => true,
+        Likelihood::Refused(_) => true,
+    }
+}
+
+// The same, passed over once neither model goes on.
+fn both_onward<'a>(
+    quotients: &'a [u64; 257],
+    remainders: &'a [u64; 257],
+    tolerance: f64,
+    card: &[u8],
+    h: Header,
+    r: usize,
+    model: &[f64],
+    columns: &[f64],
+    other: &[f64],
+    others: &[f64],
+    sequence: &mut [usize],
+    counts: &mut [u64],
+    ps: &mut [f64],
+    qs: &mut [f64],
+    b: Both,
+) -> Both
+    requires { ⌜ Shaped (now card) h × Sequence (now card) h r × Columned h (now model) (now columns) × Columned h (now other) (now others) × (64 ≤ length (now sequence)) × (16 ≤ length (now counts)) × (16 ≤ length (now ps)) × (16 ≤ length (now qs)) ⌝ }
+    ensures { λ q. ⌜ (q .first ≡ onward (recordOnward (lnBy (entriesOf (now (quotients .entry))) (entriesOf (now (remainders .entry)))) false tolerance (now (card .entry)) h (now (model .entry)) r) (b .first)) × (q .second ≡ onward (recordOnward (lnBy (entriesOf (now (quotients .entry))) (entriesOf (now (remainders .entry)))) false tolerance (now (card .entry)) h (now (other .entry)) r) (b .second)) ⌝ }
+{
+    let l = b.first;
+    let m = b.second;
+    if has_ended(l) {
+        if has_ended(m) {
+            return b;
+        }
+    }
+    add_both(
+        quotients,
+        remainders,
+        tolerance,
+        card,
+        h,
+        r,
+        model,
+        columns,
+        other,
+        others,
+        sequence,
+        counts,
+        ps,
+        qs,
+        b,
+    )
+}
+
+fn add_records_both<'a>(
+    quotients: &'a [u64; 257],
+    remainders: &'a [u64; 257],
+    tolerance: f64,
+    card: &[u8],
+    h: Header,
+    model: &[f64],
+    columns: &[f64],
+    other: &[f64],
+    others: &[f64],
+    sequence: &mut [usize],
+    counts: &mut [u64],
+    ps: &mut [f64],
+    qs: &mut [f64],
+) -> Both
+    requires { ⌜ Shaped (now card) h × ((r : ℕ) → r < h .records → Sequence (now card) h r) × Columned h (now model) (now columns) × Columned h (now other) (now others) × (64 ≤ length (now sequence)) × (16 ≤ length (now counts)) × (16 ≤ length (now ps)) × (16 ≤ length (now qs)) ⌝ }
+    ensures { λ b. ⌜ (b .first ≡ likelihoodBy (lnBy (entriesOf (now (quotients .entry))) (entriesOf (now (remainders .entry)))) false tolerance (now (card .entry)) h (now (model .entry))) × (b .second ≡ likelihoodBy (lnBy (entriesOf (now (quotients .entry))) (entriesOf (now (remainders .entry)))) false tolerance (now (card .entry)) h (now (other .entry))) ⌝ }
+{
+    let records = h.records;
+    let none = Likelihood::Fit(Diagnostics {
+        log_likelihood: 0.0,
+        deviance: 0.0,
+    });
+    let mut b = Both {
+        first: none,
+        second: none,
+    };
+    for r in 0..records {
+        b = both_onward(
+            quotients,
+            remainders,
+            tolerance,
+            card,
+            h,
+            r,
+            model,
+            columns,
+            other,
+            others,
+            sequence,
+            counts,
+            ps,
+            qs,
+            b,
+        );
+    }
+    b
+}
+
+// The likelihoods of a card's records under two models, without the deviance, each as `fit_diagnostics` has it. A record is read once for both.
+pub fn fit_diagnostics_both(
+    card: &[u8],
+    h: Header,
+    model: &[f64],
+    other: &[f64],
+    tolerance: f64,
+    columns: &mut [f64],
+    others: &mut [f64],
+) -> Both
+    requires { ⌜ Shaped (now card) h × ((r : ℕ) → r < h .records → Sequence (now card) h r) × (modelNumbers h ≤ length (now model)) × (modelNumbers h ≤ length (now other)) × (h .gates * (h .dimension * h .dimension) ≤ length (now columns)) × (h .gates * (h .dimension * h .dimension) ≤ length (now others)) ⌝ }
+    ensures { λ b. ⌜ (b .first ≡ likelihoodOf false tolerance (now (card .entry)) h (now (model .entry))) × (b .second ≡ likelihoodOf false tolerance (now (card .entry)) h (now (other .entry)))
+        × (now (columns .exit) ≡ over (columnsIn (h .dimension) (h .effects) (h .gates) (now (model .entry))) (now (columns .entry))) × (now (others .exit) ≡ over (columnsIn (h .dimension) (h .effects) (h .gates) (now (other .entry))) (now (others .entry))) ⌝ }
+{
+    let d = h.dimension;
+    let gates = h.gates;
+    let size = gates * (d * d);
+    gate_set::gates_by_columns(model, d, h.effects, gates, columns);
+    gate_set::gates_by_columns(other, d, h.effects, gates, others);
+    let t = logarithm::tables();
+    let mut sequence = sequence_room();
+    let mut counts = counts_room();
+    let mut ps = probabilities_room();
+    let mut qs = probabilities_room();
+    add_records_both(
+        &t.quotients,
+        &t.remainders,
+        tolerance,
+        card,
+        h,
+        model,
+        &columns[..size],
+        other,
+        &others[..size],
+        &mut sequence,
+        &mut counts,
+        &mut ps,
+        &mut qs,
     )
 }

@@ -3,7 +3,7 @@ use mathlib.Core.Path.{_≡_, refl, sym, _∙_, ap, ap₂, subst}
 use mathlib.Core.Bool.{Bool, true, false}
 use mathlib.Core.List.{List, [], _∷_}
 use Prim.Native.Nat.{ℕ, zero, suc, _-_, _*_, _<_, _≤_}
-use native.Mathlib.Nat.{mul-le-mul, mul-le-mul-right}
+use native.Mathlib.Nat.{mul-le-mul-right}
 use native.Mathlib.Omega.{arith}
 use lib.ListN.{length, getD}
 use Rattle.lists.specs.Build.{build}
@@ -21,7 +21,7 @@ use Rattle.turns.specs.declared.Turn.{Turn}
 use Rattle.turns.specs.Rotation.{turnOf, turned, columnsTurned}
 use Rattle.turns.proofs.Whole.{same-outside}
 use Rattle.entries.specs.Entries.{entries}
-use Rattle.eigen.specs.Jacobi.{Turns, done, usedUp, jacobi, ran, unit, diagonal, columnsIn, Spectrum, spectrum, ascending, eigOf, told, values, ascendingValues, eigenvaluesOf, toldValues}
+use Rattle.eigen.specs.Jacobi.{Turns, done, usedUp, jacobi, ran, unit, diagonal, columnsIn, spectrum, ascending, eigOf, told, values, ascendingValues, eigenvaluesOf, toldValues}
 use Rattle.eigen.specs.Steps.{Stepped}
 
 module _ (r n : ℕ) (limit : Float) (a v : List Complex) where
@@ -86,9 +86,6 @@ pub ascends : (n : ℕ) (a : List Complex) (d : List Float) (l : List ℕ) (w : 
 ascends n a d l w h e s = (s .0 ∙ rw (h, e), s .1 ∙ ap sorted e)
 
 -- ---- the whole
-
-pub square-small : (n : ℕ) → n ≤ 16 → n * n ≤ 256
-square-small n h = mul-le-mul h h
 
 pub below-square : (n : ℕ) → 0 < n → n ≤ n * n
 below-square n h = omega (arith, mul-le-mul-right n h)

@@ -3,14 +3,13 @@ use mathlib.Core.Bool.{Bool, true, false, cond}
 use mathlib.Core.List.{List, []}
 use Prim.Native.Nat.{ℕ, zero, suc}
 use lib.Dec.{eqb}
-use lib.ListN.{length, getD}
+use lib.ListN.{getD}
 use lib.Ieee.{Float, le}
 use Rattle.lists.specs.Build.{build}
 use Rattle.numbers.specs.Number.{zeroF, oneF, _*ᶠ_}
 use Rattle.numbers.specs.Slice.{at}
 use Rattle.complex.specs.declared.Complex.{Complex}
 use Rattle.entries.specs.Entries.{entryAt, matrix}
-use Rattle.magnitudes.specs.declared.Pivot.{Pivot}
 use Rattle.magnitudes.specs.Pivot.{scaleOf, pivotOf}
 use Rattle.turns.specs.Rotation.{real, turnOf, turned, columnsTurned}
 use Rattle.sorting.specs.Sort.{orderOf, sorted}

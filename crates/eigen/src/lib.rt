@@ -199,8 +199,8 @@ fn places() -> [usize; 16]
     [0; 16]
 }
 
-// Room for the parts of a matrix.
-fn matrix_room() -> [f64; 512]
+// Room for the parts of a matrix of up to 16 rows; the `ensures` gives the length, which lending a part needs.
+pub fn matrix_room() -> [f64; 512]
     ensures { λ r. ⌜ length r ≡ 512 ⌝ }
 {
     [0.0; 512]

@@ -2,12 +2,15 @@
 // They are written once, for every width. The widths of one and two qubits, 8 and 32, are passed on as constants, so that the compiler unrolls their loops.
 use matrix::put_row;
 ghost use mathlib.Core.Path.{_≡_};
+ghost use mathlib.Core.Bool.{cond};
 ghost use mathlib.Core.List.{_++_};
-ghost use Prim.Native.Nat.{_+_, _*_, _≤_, _<_};
+ghost use Prim.Native.Nat.{_+_, _*_, _/_, _≤_, _<_};
+ghost use lib.Dec.{ltb};
 ghost use lib.ListN.{length, drop};
 ghost use Rattle.lists.specs.Fold.{fold};
 ghost use Rattle.lists.specs.Part.{part};
-ghost use Rattle.elimination.specs.Rows.{rowOf, onRow, dividedRow, lessRow, eliminatedRow, clearedBy};
+ghost use Rattle.numbers.specs.Number.{_/ᶠ_};
+ghost use Rattle.elimination.specs.Rows.{rowOf, onRow, dividedFrom, lessRow, eliminatedFrom, clearedFrom, firstColumn};
 
 // Copies w numbers from `start` on to the front of `out`.
 pub fn copy_row(from: &[f64], start: usize, w: usize, out: &mut [f64])
@@ -31,15 +34,25 @@ fn move_row(work: &mut [f64], w: usize, k: usize, p: usize)
     put_row(&mut work[start..end], &row);
 }
 
-// Divides the row by its entry k, read before, and writes `out` over with it.
-fn divide_row(row: &mut [f64], k: usize, out: &mut [f64])
+// x / d, but x in the columns before c.
+fn divided(x: f64, d: f64, c: usize, j: usize) -> f64
+    ensures { λ r. ⌜ r ≡ cond (ltb j c) x (x /ᶠ d) ⌝ }
+{
+    if j < c {
+        return x;
+    }
+    x / d
+}
+
+// Divides the row by its entry k, read before, from column c on, and writes `out` over with it.
+fn divide_row(row: &mut [f64], k: usize, c: usize, out: &mut [f64])
     requires { ⌜ (k < length (now row)) × (length (now out) ≡ length (now row)) ⌝ }
-    ensures { λ _. ⌜ (now (row .exit) ≡ dividedRow k (now (row .entry))) × (now (out .exit) ≡ dividedRow k (now (row .entry))) ⌝ }
+    ensures { λ _. ⌜ (now (row .exit) ≡ dividedFrom c k (now (row .entry))) × (now (out .exit) ≡ dividedFrom c k (now (row .entry))) ⌝ }
 {
     let d = row[k];
     let width = row.len();
     for j in 0..width {
-        let quotient = row[j] / d;
+        let quotient = divided(row[j], d, c, j);
         row[j] = quotient;
         out[j] = quotient;
     }
@@ -56,56 +69,77 @@ fn subtract_row(row: &mut [f64], pivot: &[f64], f: f64)
     }
 }
 
-// Eliminates column k from row i.
-fn eliminate_row(work: &mut [f64], pivot: &[f64], w: usize, k: usize, i: usize)
-    requires { ⌜ (k < w) × (length (now pivot) ≡ w) × (i * w + w ≤ length (now work)) ⌝ }
-    ensures { λ _. ⌜ now (work .exit) ≡ eliminatedRow (now (pivot .entry)) w k i (now (work .entry)) ⌝ }
+// Eliminates column k from row i, in the columns from c on.
+fn eliminate_row(work: &mut [f64], pivot: &[f64], w: usize, k: usize, c: usize, i: usize)
+    requires { ⌜ (c ≤ k) × (k < w) × (length (now pivot) ≡ w) × (i * w + w ≤ length (now work)) ⌝ }
+    ensures { λ _. ⌜ now (work .exit) ≡ eliminatedFrom c (now (pivot .entry)) w k i (now (work .entry)) ⌝ }
 {
     if i == k {
         return;
     }
-    let start = i * w;
-    let end = start + w;
-    let f = work[start + k];
-    subtract_row(&mut work[start..end], pivot, f);
+    let first = i * w;
+    let start = first + c;
+    let end = first + w;
+    let f = work[first + k];
+    subtract_row(&mut work[start..end], &pivot[c..w], f);
 }
 
 // Eliminates column k from every row but row k.
-fn eliminate_rows(work: &mut [f64], pivot: &[f64], n: usize, w: usize, k: usize)
-    requires { ⌜ (k < w) × (length (now pivot) ≡ w) × (n * w ≤ length (now work)) ⌝ }
-    ensures { λ _. ⌜ now (work .exit) ≡ fold n (eliminatedRow (now (pivot .entry)) w k) (now (work .entry)) ⌝ }
+fn eliminate_rows(work: &mut [f64], pivot: &[f64], n: usize, w: usize, k: usize, c: usize)
+    requires { ⌜ (c ≤ k) × (k < w) × (length (now pivot) ≡ w) × (n * w ≤ length (now work)) ⌝ }
+    ensures { λ _. ⌜ now (work .exit) ≡ fold n (eliminatedFrom c (now (pivot .entry)) w k) (now (work .entry)) ⌝ }
 {
     for i in 0..n {
-        eliminate_row(work, pivot, w, k, i);
+        eliminate_row(work, pivot, w, k, c, i);
     }
 }
 
-// The pivot's row is copied, row k put in its place, and the copy, divided by the pivot, is put in row k and taken from the others.
-fn clear_by(work: &mut [f64], n: usize, w: usize, k: usize, p: usize)
-    requires { ⌜ (k < n) × (p < n) × (k < w) × (w ≤ 32) × (n * w ≤ length (now work)) ⌝ }
-    ensures { λ _. ⌜ now (work .exit) ≡ clearedBy n w k p (now (work .entry)) ⌝ }
+// The pivot's row is copied, row k put in its place, and the copy, divided by the pivot, is put in row k and taken from the others, from column c on.
+fn clear_by(work: &mut [f64], n: usize, w: usize, k: usize, p: usize, c: usize)
+    requires { ⌜ (k < n) × (p < n) × (k < w) × (w ≤ 32) × (n * w ≤ length (now work)) × (c ≤ k) ⌝ }
+    ensures { λ _. ⌜ now (work .exit) ≡ clearedFrom c n w k p (now (work .entry)) ⌝ }
 {
     let mut pivot = [0.0f64; 32];
     copy_row(work, p * w, w, &mut pivot);
     move_row(work, w, k, p);
     let start = k * w;
     let end = start + w;
-    divide_row(&mut pivot[..w], k, &mut work[start..end]);
-    eliminate_rows(work, &pivot[..w], n, w, k);
+    divide_row(&mut pivot[..w], k, c, &mut work[start..end]);
+    eliminate_rows(work, &pivot[..w], n, w, k, c);
 }
 
-// Clears column k of n rows of w numbers by the pivot in row p.
+// Clears column k of 16 rows of 32 numbers, from the first column of its four on: those before are not read again.
+fn clear_wide(work: &mut [f64], n: usize, k: usize, p: usize)
+    requires { ⌜ (k < n) × (p < n) × (k < 16) × (n * 32 ≤ length (now work)) ⌝ }
+    ensures { λ _. ⌜ now (work .exit) ≡ clearedFrom (k / 4 * 4) n 32 k p (now (work .entry)) ⌝ }
+{
+    if k < 4 {
+        clear_by(work, n, 32, k, p, 0);
+        return;
+    }
+    if k < 8 {
+        clear_by(work, n, 32, k, p, 4);
+        return;
+    }
+    if k < 12 {
+        clear_by(work, n, 32, k, p, 8);
+        return;
+    }
+    clear_by(work, n, 32, k, p, 12);
+}
+
+// Clears column k of n rows of w numbers by the pivot in row p, in the columns from k on.
 pub fn clear_column(work: &mut [f64], n: usize, w: usize, k: usize, p: usize)
-    requires { ⌜ (k < n) × (p < n) × (k < w) × (w ≤ 32) × (n * w ≤ length (now work)) ⌝ }
-    ensures { λ _. ⌜ now (work .exit) ≡ clearedBy n w k p (now (work .entry)) ⌝ }
+    requires { ⌜ (k < n) × (p < n) × (n ≤ 16) × (k < w) × (w ≤ 32) × (n * w ≤ length (now work)) ⌝ }
+    ensures { λ _. ⌜ now (work .exit) ≡ clearedFrom (firstColumn w k) n w k p (now (work .entry)) ⌝ }
 {
     if w == 32 {
-        clear_by(work, n, 32, k, p);
+        clear_wide(work, n, k, p);
         return;
     }
     if w == 8 {
-        clear_by(work, n, 8, k, p);
+        clear_by(work, n, 8, k, p, 0);
         return;
     }
-    clear_by(work, n, w, k, p);
+    clear_by(work, n, w, k, p, 0);
 }

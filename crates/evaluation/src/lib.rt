@@ -8,10 +8,11 @@ use refusal::Refusal;
 use refusal::Verdict;
 ghost use mathlib.Core.Path.{_≡_};
 ghost use Prim.Native.Nat.{_*_, _<_};
+ghost use mathlib.Core.Bool.{true};
 ghost use mathlib.Core.List.{map};
 ghost use lib.ListN.{length, set};
 ghost use Rattle.numbers.specs.Number.{_-ᶠ_, _*ᶠ_};
-ghost use Rattle.numbers.specs.Slice.{at};
+ghost use Rattle.numbers.specs.Slice.{at, allFinite};
 ghost use Rattle.root.specs.Root.{sqrt};
 ghost use Rattle.matrix.specs.Product.{sumOf};
 ghost use Rattle.model_words.specs.Words.{modelNumbers, numbersOf};
@@ -104,6 +105,86 @@ pub fn evaluate(
     score(card, h, places, c, anchor, l, xs)
 }
 
+// The probes on both sides of a point, evaluated.
+struct Probes {
+    right: Evaluated,
+    left: Evaluated,
+}
+
+// The same of two coordinate lists that are finite, at one go over the records.
+fn evaluate_finite(
+    card: &[u8],
+    h: Header,
+    places: &[usize],
+    c: GstOptimizerConfig,
+    anchor: &[f64],
+    xs: &[f64],
+    ys: &[f64],
+    model: &mut [f64],
+    columns: &mut [f64],
+    other: &mut [f64],
+    others: &mut [f64],
+) -> Probes
+    requires { ⌜ Lent (now card) h (now places) (now anchor) (now model) (now columns) × Lent (now card) h (now places) (now anchor) (now other) (now others) × (length (now xs) ≡ length (now places)) × (length (now ys) ≡ length (now places)) × (allFinite (now xs) ≡ true) × (allFinite (now ys) ≡ true) ⌝ }
+    ensures { λ p. ⌜ (p .right ≡ spec.evaluate (jobBy (now (card .entry)) h (now (places .entry)) c) (now (xs .entry))) × (p .left ≡ spec.evaluate (jobBy (now (card .entry)) h (now (places .entry)) c) (now (ys .entry))) ⌝ }
+{
+    fill(card, h, places, xs, model);
+    fill(card, h, places, ys, other);
+    let b = diagnostics::fit_diagnostics_both(
+        card,
+        h,
+        model,
+        other,
+        c.probability_tolerance,
+        columns,
+        others,
+    );
+    let l = b.first;
+    let m = b.second;
+    let right = score(card, h, places, c, anchor, l, xs);
+    let left = score(card, h, places, c, anchor, m, ys);
+    Probes { right, left }
+}
+
+// Two coordinate lists evaluated: together where both are finite, and otherwise one after the other.
+fn evaluate_both(
+    card: &[u8],
+    h: Header,
+    places: &[usize],
+    c: GstOptimizerConfig,
+    anchor: &[f64],
+    xs: &[f64],
+    ys: &[f64],
+    model: &mut [f64],
+    columns: &mut [f64],
+    other: &mut [f64],
+    others: &mut [f64],
+) -> Probes
+    requires { ⌜ Lent (now card) h (now places) (now anchor) (now model) (now columns) × Lent (now card) h (now places) (now anchor) (now other) (now others) × (length (now xs) ≡ length (now places)) × (length (now ys) ≡ length (now places)) ⌝ }
+    ensures { λ p. ⌜ (p .right ≡ spec.evaluate (jobBy (now (card .entry)) h (now (places .entry)) c) (now (xs .entry))) × (p .left ≡ spec.evaluate (jobBy (now (card .entry)) h (now (places .entry)) c) (now (ys .entry))) ⌝ }
+{
+    if numbers::all_finite(xs) {
+        if numbers::all_finite(ys) {
+            return evaluate_finite(
+                card,
+                h,
+                places,
+                c,
+                anchor,
+                xs,
+                ys,
+                model,
+                columns,
+                other,
+                others,
+            );
+        }
+    }
+    let right = evaluate(card, h, places, c, anchor, xs, model, columns);
+    let left = evaluate(card, h, places, c, anchor, ys, other, others);
+    Probes { right, left }
+}
+
 fn usable(v: f64) -> Derivative
     ensures { λ r. ⌜ r ≡ spec.usable v ⌝ }
 {
@@ -132,29 +213,16 @@ fn difference(o: f64, h: f64, right: Evaluated, left: Evaluated) -> Derivative
     }
 }
 
-// xs with v at i, evaluated; `probed` is room for it.
-fn probe(
-    card: &[u8],
-    h: Header,
-    places: &[usize],
-    c: GstOptimizerConfig,
-    anchor: &[f64],
-    xs: &[f64],
-    i: usize,
-    v: f64,
-    probed: &mut [f64],
-    model: &mut [f64],
-    columns: &mut [f64],
-) -> Evaluated
-    requires { ⌜ Lent (now card) h (now places) (now anchor) (now model) (now columns) × (length (now xs) ≡ length (now places)) × (length (now probed) ≡ length (now places)) × (i < length (now places)) ⌝ }
-    ensures { λ r. ⌜ r ≡ spec.evaluate (jobBy (now (card .entry)) h (now (places .entry)) c) (set (now (xs .entry)) i v) ⌝ }
+// xs with v at i.
+fn put_probe(xs: &[f64], i: usize, v: f64, probed: &mut [f64])
+    requires { ⌜ (length (now probed) ≡ length (now xs)) × (i < length (now xs)) ⌝ }
+    ensures { λ _. ⌜ now (probed .exit) ≡ set (now (xs .entry)) i v ⌝ }
 {
     matrix::put_row(probed, xs);
     probed[i] = v;
-    evaluate(card, h, places, c, anchor, probed, model, columns)
 }
 
-// The derivative in coordinate i at xs, where the objective is o.
+// The derivative in coordinate i at xs, where the objective is o. The probe on the right and the one on the left have rooms of their own.
 fn derivative(
     card: &[u8],
     h: Header,
@@ -164,47 +232,96 @@ fn derivative(
     xs: &[f64],
     o: f64,
     i: usize,
-    probed: &mut [f64],
+    right: &mut [f64],
     model: &mut [f64],
     columns: &mut [f64],
+    left: &mut [f64],
+    other: &mut [f64],
+    others: &mut [f64],
 ) -> Derivative
-    requires { ⌜ Lent (now card) h (now places) (now anchor) (now model) (now columns) × (length (now xs) ≡ length (now places)) × (length (now probed) ≡ length (now places)) × (i < length (now places)) ⌝ }
+    requires { ⌜ Lent (now card) h (now places) (now anchor) (now model) (now columns) × Lent (now card) h (now places) (now anchor) (now other) (now others) × (length (now xs) ≡ length (now places)) × (length (now right) ≡ length (now places)) × (length (now left) ≡ length (now places)) × (i < length (now places)) ⌝ }
     ensures { λ r. ⌜ r ≡ spec.derivative (jobBy (now (card .entry)) h (now (places .entry)) c) (now (xs .entry)) o i ⌝ }
 {
     let x = xs[i];
     let e = c.finite_difference_step * numbers::max_of(numbers::abs_of(x), 1.0);
-    let above = x + e;
-    let below = x - e;
-    let right = probe(
+    put_probe(xs, i, x + e, right);
+    put_probe(xs, i, x - e, left);
+    let p = evaluate_both(
         card,
         h,
         places,
         c,
         anchor,
-        xs,
-        i,
-        above,
-        probed,
+        right,
+        left,
         model,
         columns,
+        other,
+        others,
     );
-    let left = probe(
-        card,
-        h,
-        places,
-        c,
-        anchor,
-        xs,
-        i,
-        below,
-        probed,
-        model,
-        columns,
-    );
-    difference(o, e, right, left)
+    let r = p.right;
+    let l = p.left;
+    difference(o, e, r, l)
 }
 
-// The gradient at xs, where the objective is o, into g.
+// The derivatives at xs into g, up to the first that is unusable.
+fn differentiate(
+    card: &[u8],
+    h: Header,
+    places: &[usize],
+    c: GstOptimizerConfig,
+    anchor: &[f64],
+    xs: &[f64],
+    o: f64,
+    g: &mut [f64],
+    right: &mut [f64],
+    model: &mut [f64],
+    columns: &mut [f64],
+    left: &mut [f64],
+    other: &mut [f64],
+    others: &mut [f64],
+) -> Verdict
+    requires { ⌜ Lent (now card) h (now places) (now anchor) (now model) (now columns) × Lent (now card) h (now places) (now anchor) (now other) (now others) × (length (now xs) ≡ length (now places)) × (length (now g) ≡ length (now places)) × (length (now right) ≡ length (now places)) × (length (now left) ≡ length (now places)) ⌝ }
+    ensures { λ r. ⌜ slopesOf r (now (g .exit)) ≡ spec.gradient (jobBy (now (card .entry)) h (now (places .entry)) c) (now (xs .entry)) o ⌝ }
+{
+    let n = xs.len();
+    for i in 0..n {
+        let d = derivative(
+            card,
+            h,
+            places,
+            c,
+            anchor,
+            xs,
+            o,
+            i,
+            right,
+            model,
+            columns,
+            left,
+            other,
+            others,
+        );
+        match d {
+            Derivative::Slope(v) => {
+                g[i] = v;
+            }
+            Derivative::Unusable(r) => {
+                return Verdict::Refused(r);
+            }
+        }
+    }
+    Verdict::Good
+}
+
+// Room for the coordinates of a probe; the `ensures` gives the length, which lending a part needs.
+fn probe_room() -> [f64; 64]
+    ensures { λ r. ⌜ 64 ≡ length r ⌝ }
+{
+    [0.0; 64]
+}
+
+// The gradient at xs, where the objective is o, into g. The probes on the right use the rooms that are lent.
 pub fn gradient(
     card: &[u8],
     h: Header,
@@ -222,18 +339,26 @@ pub fn gradient(
     ensures { λ r. ⌜ (slopesOf r (now (g .exit)) ≡ spec.gradient (jobBy (now (card .entry)) h (now (places .entry)) c) (now (xs .entry)) o) × (length (now (probed .exit)) ≡ length (now (probed .entry))) × (length (now (model .exit)) ≡ length (now (model .entry))) × (length (now (columns .exit)) ≡ length (now (columns .entry))) ⌝ }
 {
     let n = xs.len();
-    for i in 0..n {
-        let d = derivative(card, h, places, c, anchor, xs, o, i, probed, model, columns);
-        match d {
-            Derivative::Slope(v) => {
-                g[i] = v;
-            }
-            Derivative::Unusable(r) => {
-                return Verdict::Refused(r);
-            }
-        }
-    }
-    Verdict::Good
+    let count = model_words::model_numbers(h);
+    let mut left = probe_room();
+    let mut other = model_words::model_room();
+    let mut others = model_words::columns_room();
+    differentiate(
+        card,
+        h,
+        places,
+        c,
+        anchor,
+        xs,
+        o,
+        g,
+        probed,
+        model,
+        columns,
+        &mut left[..n],
+        &mut other[..count],
+        &mut others,
+    )
 }
 
 // The Euclidean norm.

@@ -10,8 +10,9 @@ use Rattle.likelihood.specs.declared.Diagnostics.{Diagnostics}
 use Rattle.likelihood.specs.declared.Likelihood.{Likelihood}
 use Rattle.descent.specs.declared.GstTermination.{GstTermination}
 use Rattle.descent.specs.declared.GstTermination.the-variants.{GradientTolerance, ObjectiveTolerance, MaximumIterations, LineSearchStalled}
-use Rattle.descent.specs.Fit.{Job, Point, turned, slopes, unusable, size, modelOf, diagnosticsIn, gradient, norm, reasonAt, closedBy, closed}
-use Rattle.steps.specs.Running.{Steep, keepsNorm}
+use Rattle.descent.specs.Fit.{Job, Point, turned, unusable, size, modelOf, diagnosticsIn, gradient, reasonAt, closedBy, closed}
+use Rattle.steps.specs.declared.Slope.the-variants.{Norm}
+use Rattle.steps.specs.Running.{Sloped, Steep, keepsNorm}
 use Rattle.fit.specs.declared.Shown.{Shown}
 use Rattle.fit.specs.declared.Fitting.the-variants as fitting
 use Rattle.fit.specs.Outcome.{shownBy, shownOf, outcomeOf}
@@ -30,13 +31,12 @@ module _ (J : Job) (d : Diagnostics) (r : GstTermination) (p : Point) where
   shown z m l f a b e = ap (shownBy d r z p (2 * size J)) (e ∙ ap diagnosticsIn (b ∙ ap (J .likelihood) a))
 
   -- the final gradient is g, of norm z
-  pub closes : (g : List Float) (z : Float) (k : GstTermination) (q : Shown) (m : List Float) → gradient J (p .coordinates) (p .objective) ≡ slopes g → z ≡ norm J g
-      → k ≡ reasonAt r (le z (J .config .«gradient_tolerance»)) → m ≡ modelOf J (p .coordinates) → q ≡ shownOf J d k z p → outcomeOf (fitting.Fitted q) m ≡ closed J d r p
+  pub closes : (g : List Float) (z : Float) (k : GstTermination) (q : Shown) (m : List Float) → Sloped J p g (Norm z) → k ≡ reasonAt r (le z (J .config .«gradient_tolerance»)) → m ≡ modelOf J (p .coordinates) → q ≡ shownOf J d k z p → outcomeOf (fitting.Fitted q) m ≡ closed J d r p
   unfolding closed
-  closes g z k q m f n e a s =
+  closes g z k q m f e a s =
       ap₂ (λ (q : Shown) (m : List Float). outcomeOf (fitting.Fitted q) m) s a
-      ∙ ap₂ (λ (k : GstTermination) (z : Float). outcomeOf (fitting.Fitted (shownOf J d k z p)) (modelOf J (p .coordinates))) (e ∙ ap (λ (z : Float). reasonAt r (le z (J .config .«gradient_tolerance»))) n) n
-      ∙ sym (ap (closedBy J d r p) f)
+      ∙ ap₂ (λ (k : GstTermination) (z : Float). outcomeOf (fitting.Fitted (shownOf J d k z p)) (modelOf J (p .coordinates))) (e ∙ ap (λ (z : Float). reasonAt r (le z (J .config .«gradient_tolerance»))) (f .1)) (f .1)
+      ∙ sym (ap (closedBy J d r p) (f .0))
 
   -- it is unusable
   pub closes-refused : {x : Refusal} → gradient J (p .coordinates) (p .objective) ≡ unusable x → turned x ≡ closed J d r p
@@ -48,4 +48,4 @@ module _ (J : Job) (d : Diagnostics) (r : GstTermination) (p : Point) where
       → outcomeOf (fitting.Fitted q) m ≡ closed J d r p
   known z q m s k a w =
       let g = s k in
-      closes (g .slope) z r q m (g .found) (sym (g .normed)) (reason-kept r _ k) a w
+      closes (g .slope) z r q m (g .sloped) (reason-kept r _ k) a w

@@ -2,16 +2,15 @@
 use card_layout::Header;
 use descent::GstOptimizerConfig;
 use descent::GstTermination;
-use evaluation::gradient;
-use evaluation::norm;
 use likelihood::Diagnostics;
 use likelihood::Likelihood;
 use refusal::Refusal;
-use refusal::Verdict;
 use steps::Running;
+use steps::Slope;
 use steps::Status;
 use steps::room;
 use steps::run;
+use steps::slope_at;
 ghost use mathlib.Core.Path.{_≡_};
 ghost use mathlib.Core.List.{map};
 ghost use Prim.Native.Nat.{ℕ, _*_, _≤_, _<_};
@@ -140,31 +139,14 @@ fn close(
     requires { ⌜ Lent (now card) h (now places) (now anchor) (now model) (now columns) × Underway r ⌝ }
     ensures { λ q. ⌜ outcomeOf q (now (model .exit)) ≡ spec.closed (jobBy (now (card .entry)) h (now (places .entry)) c) initial stop (pointOf (length (now (places .entry))) r) ⌝ }
 {
-    let p = places.len();
-    let x = r.coordinates;
-    let o = r.objective;
     let mut g = room();
-    let mut t = room();
-    let found = gradient(
-        card,
-        h,
-        places,
-        c,
-        anchor,
-        &x[..p],
-        o,
-        &mut g[..p],
-        &mut t[..p],
-        model,
-        columns,
-    );
+    let found = slope_at(card, h, places, c, anchor, r, &mut g, model, columns);
     match found {
-        Verdict::Good => {
-            let z = norm(&g[..p]);
+        Slope::Norm(z) => {
             let k = reason(stop, z <= c.gradient_tolerance);
             Fitting::Fitted(show(card, h, places, c, initial, k, z, r, model, columns))
         }
-        Verdict::Refused(x) => Fitting::Refused(x),
+        Slope::Unusable(x) => Fitting::Refused(x),
     }
 }
 

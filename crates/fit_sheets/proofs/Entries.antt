@@ -1,23 +1,24 @@
 -- The entries of an accepted fit card: where each stands among the sheet's words and on the card, and that it is finite. Assumes nothing.
 use Prim.Native.Nat.{ℕ, suc, _+_, _*_, _<_}
 use mathlib.Core.Path.{_≡_, refl, sym, ap, subst, _∙_}
-use mathlib.Core.Bool.{Bool, true, false, cond, not, _&&_}
+use mathlib.Core.Bool.{Bool, true, false, cond, _&&_}
 use mathlib.Core.List.{List, [], _∷_, map}
 use native.Mathlib.Omega.{arith}
 use borrow.Author.Tests.{ltb-true}
-use lib.Dec.{T, eqb, ltb}
+use lib.Dec.{eqb, ltb}
 use lib.ListN.{length, getD}
-use lib.Ieee.{Float, nan, inf, fin, binary64, isNan}
+use lib.Ieee.{Float, binary64}
 use lib.Ieee.Bits.{toBits-ofBits}
 use Rattle.lists.specs.Fold.{fold}
 use Rattle.lists.proofs.Parts.{entry-fits}
-use Rattle.booleans.proofs.Joined.{and-both, clash}
+use Rattle.booleans.proofs.Joined.{and-both}
 use Rattle.numbers.specs.Number.{word, finite}
 use Rattle.numbers.specs.Word.{wordAt}
 use Rattle.numbers.specs.Slice.{at, numberAt, numbersAt, allFinite}
 use Rattle.numbers.proofs.Finite.{each-finite}
 use Rattle.numbers.proofs.Slices.{length-numbers}
 use Rattle.refusal.specs.declared.Verdict.the-variants.{Good}
+use Rattle.significand.proofs.Pattern.{no-nan}
 use Rattle.card_layout.specs.declared.Header.{Header}
 use Rattle.card_layout.specs.declared.Coordinate.{Coordinate}
 use Rattle.card_places.specs.Places.{modelAt, modelWords, stateAt, effectAt, gateAt}
@@ -32,12 +33,6 @@ use Rattle.fit_sheets.specs.Buyer.{namePlace, wordPlace}
 
 -- ---- a word that holds a finite number is that number's word
 
-finite-no-nan : (x : Float) → finite x ≡ true → T (not (isNan x))
-unfolding finite isNan
-finite-no-nan nan e = clash true refl (sym e)
-finite-no-nan (inf s) e = tt
-finite-no-nan (fin s m e) h = tt
-
 module _ (s : List ℕ) (bytes : (i : ℕ) → getD s i 0 < 256) where
   word-bound : (p : ℕ) → wordAt s p < 0x1_0000_0000_0000_0000
   unfolding wordAt fold
@@ -45,7 +40,7 @@ module _ (s : List ℕ) (bytes : (i : ℕ) → getD s i 0 < 256) where
       omega (arith, bytes (p * 8 + 0), bytes (p * 8 + 1), bytes (p * 8 + 2), bytes (p * 8 + 3), bytes (p * 8 + 4), bytes (p * 8 + 5), bytes (p * 8 + 6), bytes (p * 8 + 7))
 
   pub same-word : (p : ℕ) → finite (numberAt s p) ≡ true → word (numberAt s p) ≡ wordAt s p
-  same-word p e = toBits-ofBits binary64 (wordAt s p) (word-bound p) (finite-no-nan (numberAt s p) e)
+  same-word p e = toBits-ofBits binary64 (wordAt s p) (word-bound p) (no-nan (numberAt s p) e)
 
 -- all of the numbers at some places
 pub finite-map : (m : List Float) (ps : List ℕ) → ((i : ℕ) → i < length ps → finite (at m (getD ps i 0)) ≡ true) → allFinite (map (at m) ps) ≡ true

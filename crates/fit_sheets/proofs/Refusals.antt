@@ -5,13 +5,12 @@ use mathlib.Core.Bool.{true, not}
 use mathlib.Core.List.{List}
 use borrow.Author.Tests.{eqb-false}
 use lib.Dec.{eqb}
-use lib.Ieee.{Float}
-use Rattle.lists.proofs.Folding.{fold-keeps}
 use Rattle.logarithm.specs.Steps.{ln}
 use Rattle.refusal.specs.declared.Refusal.{Refusal}
 use Rattle.refusal.specs.declared.Refusal.the-variants.{InvalidGstOptimization, InvalidGstParameter}
 use Rattle.refusal.specs.declared.Verdict.the-variants as verdict
 use Rattle.refusal.specs.Values.{codeOf}
+use Rattle.refusal.proofs.Lower.{Lower, lower-good, lower-refused, lower-either, lower-test, lower-each}
 use Rattle.card_layout.specs.declared.Header.{Header}
 use Rattle.card_parts.specs.Parts.{coordinateIn}
 use Rattle.model.specs.Checked.{checkedOf}
@@ -24,7 +23,7 @@ use Rattle.descent.proofs.Refusals.{InLikelihood, InOutcome, refusals-in}
 use Rattle.parameters.specs.Parameters.{configOf, goodConfig, hasEntry, repeated, parameterVerdict, parametersVerdict, requestVerdict}
 use Rattle.fit.specs.Outcome.{jobOf}
 use Rattle.outcome.specs.declared.Answer.the-variants.{Fit}
-use Rattle.outcome.proofs.Refusals.{Sound, Lower, lower-good, lower-refused, lower-either, lower-first, other, shown-sound}
+use Rattle.outcome.proofs.Refusals.{Sound, other, shown-sound}
 use Rattle.gst_sheets.proofs.Refusals.{Low, low-likelihood, sound-after}
 use Rattle.fit_sheets.specs.Sheets.{outcomeSheet, requestSheet, fitSheet}
 
@@ -38,7 +37,7 @@ module _ (s : List ℕ) (h : Header) where
   unfolding parameterVerdict
   lower-parameter i =
       lower-either (repeated s h i) (lower-optimization 4)
-      (lower-either (hasEntry h (coordinateIn s h i)) lower-good (lower-refused (InvalidGstParameter i) (eqb-false 14 16 refl)))
+      (lower-test (hasEntry h (coordinateIn s h i)) (InvalidGstParameter i) (eqb-false 14 16 refl))
 
   lower-request : Lower (requestVerdict s h)
   unfolding requestVerdict parametersVerdict
@@ -46,7 +45,7 @@ module _ (s : List ℕ) (h : Header) where
       lower-either (not (goodConfig (configOf s))) (lower-optimization 1)
       (lower-either (eqb (h .records) 0) (lower-optimization 2)
       (lower-either (eqb (h .coordinates) 0) (lower-optimization 3)
-      (fold-keeps _ Lower _ verdict.Good lower-good (λ i v _ p. lower-first p (lower-parameter i)))))
+      (lower-each _ _ lower-parameter)))
 
 -- ---- the fit
 
@@ -62,9 +61,9 @@ sound-outcome : (s : List ℕ) (h : Header) (o : descent.Outcome) → InOutcome 
 sound-outcome s h (fitted f) p = shown-sound verdict.Good (Fit _ _ _ _ _) _ lower-good refl
 sound-outcome s h (turned r) p = other r p
 
-pub fit-sound : (s : List ℕ) (h : Header) → Sound (fitSheet s h)
+pub fit-sheet-sound : (s : List ℕ) (h : Header) → Sound (fitSheet s h)
 unfolding fitSheet requestSheet
-fit-sound s h =
+fit-sheet-sound s h =
     sound-after (checkedOf s h) (lower-model s h)
     (sound-after (requestVerdict s h) (lower-request s h)
     (sound-outcome s h (fitOf (jobOf s h))

@@ -37,7 +37,7 @@ pub record Buyer (s : List ℕ) (h : Header) (R S E : ℕ) (v : Bool) (m : List 
   pub evaluations : E ≡ fit .evaluations
   pub convergence : v ≡ converged (fit .stop)
   pub words : take (6 + modelWords h) m ≡ fitWords s h fit
-  -- its points 0 to S, each made from the card and the one before it: `Claim` says so line by line
+  -- its points: `Claim` says line by line how each comes from the card and the point before
   pub points : List (List Float)
   pub claim : Claim (jobOf s h) fit points
   -- every model word that no coordinate names has the card's bits: entries, and names

@@ -3,6 +3,8 @@ use card_layout::Header;
 use descent::GstTermination;
 use fit::Fitting;
 use fit::Shown;
+use model_words::columns_room;
+use model_words::model_room;
 use outcome::Answer;
 use refusal::Verdict;
 ghost use mathlib.Core.Path.{_≡_};
@@ -19,19 +21,6 @@ ghost use Rattle.parameters.specs.Parameters.{requestVerdict};
 ghost use Rattle.fit.specs.Outcome.{jobOf, fittedOf, outcomeOf};
 ghost use Rattle.outcome.specs.Outcome.{Gives};
 ghost use Rattle.fit_sheets.specs.Sheets.{stopNumber, converged, fitNumbers, fitWords, FitRequest, outcomeSheet, requestSheet, fitSheet};
-
-// Room for the numbers of a model, and for its gates by columns.
-fn model_room() -> [f64; 2320]
-    ensures { λ r. ⌜ 2320 ≡ length r ⌝ }
-{
-    [0.0; 2320]
-}
-
-fn columns_room() -> [f64; 2048]
-    ensures { λ r. ⌜ 2048 ≡ length r ⌝ }
-{
-    [0.0; 2048]
-}
 
 // R of a sheet.
 fn stop_number(r: GstTermination) -> u64

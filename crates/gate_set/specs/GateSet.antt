@@ -1,6 +1,6 @@
 -- Gate sets (Greenbaum 2015, "Introduction to quantum gate set tomography", section 2; the Rust's `GateSetModel`): a state of d numbers, e effects of d numbers, and
 -- gates, each a d by d matrix. A model's numbers lie in a list in the card's order, without the gates' names.
-use Prim.Native.Nat.{ℕ, _+_, _*_, _/_, _%_, _<_}
+use Prim.Native.Nat.{ℕ, _+_, _*_, _≤_, _<_}
 use mathlib.Core.List.{List}
 use mathlib.Core.Bool.{cond}
 use lib.Dec.{ltb}
@@ -9,8 +9,7 @@ use lib.Ieee.{Float}
 use Rattle.lists.specs.Build.{build, joined}
 use Rattle.lists.specs.Fold.{fold}
 use Rattle.lists.specs.Part.{part}
-use Rattle.numbers.specs.Slice.{at}
-use Rattle.matrix.specs.Product.{dotOf, matVecOf, rowMatOf}
+use Rattle.matrix.specs.Product.{dotOf, matVecOf, rowMatOf, transposedOf}
 use Rattle.refusal.specs.declared.Refusal.the-variants.{UnknownGate}
 use Rattle.refusal.specs.declared.Verdict.{Verdict}
 use Rattle.refusal.specs.declared.Verdict.the-variants.{Good, Refused}
@@ -47,14 +46,18 @@ presentOf gates sequence = fold (length sequence) (λ k v. firstOf v (presentGat
 
 -- ---- gates by columns, as the code keeps them
 
--- the matrix a by columns: number z is entry (z % d, z / d)
-unfoldable pub columnsOf : ℕ → List Float → List Float
-columnsOf d a = build (d * d) (λ z. at a (z % d * d + z / d))
-
 -- all gates of a model
 unfoldable pub columnsIn : ℕ → ℕ → ℕ → List Float → List Float
-columnsIn d e gates m = joined gates (λ g. columnsOf d (gateIn d e m g))
+columnsIn d e gates m = joined gates (λ g. transposedOf d (gateIn d e m g))
+
+-- the gates of a sequence lie among these columns
+abbrev pub Lying : ℕ → List Float → List ℕ → Type 0
+Lying d columns sequence = (k : ℕ) → k < length sequence → getD sequence k 0 * (d * d) + d * d ≤ length columns
+
+-- x put through a sequence of them
+abbrev pub throughBy : ℕ → List Float → List ℕ → List Float → List Float
+throughBy d columns = through (λ g x. rowMatOf d x (part (g * (d * d)) (d * d) columns))
 
 -- the same probabilities (proofs/Columns.antt), by gates that lie so
 unfoldable pub probabilitiesBy : ℕ → ℕ → List Float → List Float → List ℕ → List Float
-probabilitiesBy d e m columns sequence = measured d e m (through (λ g x. rowMatOf d x (part (g * (d * d)) (d * d) columns)) sequence (stateIn d m))
+probabilitiesBy d e m columns sequence = measured d e m (throughBy d columns sequence (stateIn d m))

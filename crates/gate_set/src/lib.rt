@@ -4,13 +4,9 @@ use refusal::Refusal;
 use refusal::Verdict;
 ghost use mathlib.Core.Path.{_≡_};
 ghost use mathlib.Core.List.{_++_};
-ghost use Prim.Native.Nat.{ℕ, _+_, _*_, _≤_, _<_};
-ghost use lib.ListN.{length, getD, drop};
-ghost use Rattle.lists.specs.Build.{build};
-ghost use Rattle.lists.specs.Part.{part};
-ghost use Rattle.numbers.specs.Slice.{at};
-ghost use Rattle.matrix.specs.Product.{rowMatOf};
-ghost use Rattle.gate_set.specs.GateSet.{through, measured, presentOf, columnsOf, columnsIn, probabilitiesBy};
+ghost use Prim.Native.Nat.{_+_, _*_, _≤_, _<_};
+ghost use lib.ListN.{length, drop};
+ghost use Rattle.gate_set.specs.GateSet.{measured, presentOf, columnsIn, Lying, throughBy, probabilitiesBy};
 
 // Whether every gate of the sequence is there, or the first that is not.
 pub fn check_sequence(sequence: &[usize], gates: usize) -> Verdict
@@ -26,28 +22,6 @@ pub fn check_sequence(sequence: &[usize], gates: usize) -> Verdict
     Verdict::Good
 }
 
-// Column j of the matrix a.
-fn put_column(a: &[f64], d: usize, j: usize, out: &mut [f64])
-    requires { ⌜ (d ≤ 16) × (d * d ≤ length (now a)) × (j < d) × (length (now out) ≡ d) ⌝ }
-    ensures { λ _. ⌜ now (out .exit) ≡ build d (λ i. at (now (a .entry)) (i * d + j)) ⌝ }
-{
-    for i in 0..d {
-        out[i] = a[i * d + j];
-    }
-}
-
-// The matrix a by columns.
-fn put_columns(a: &[f64], d: usize, out: &mut [f64])
-    requires { ⌜ (d ≤ 16) × (d * d ≤ length (now a)) × (length (now out) ≡ d * d) ⌝ }
-    ensures { λ _. ⌜ now (out .exit) ≡ columnsOf d (now (a .entry)) ⌝ }
-{
-    for j in 0..d {
-        let start = j * d;
-        let end = start + d;
-        put_column(a, d, j, &mut out[start..end]);
-    }
-}
-
 // All gates of a model by columns, at the front of `out`.
 pub fn gates_by_columns(model: &[f64], d: usize, e: usize, gates: usize, out: &mut [f64])
     requires { ⌜ (d ≤ 16) × (e ≤ 16) × (gates ≤ 8) × (d + e * d + gates * (d * d) ≤ length (now model)) × (gates * (d * d) ≤ length (now out)) ⌝ }
@@ -60,14 +34,14 @@ pub fn gates_by_columns(model: &[f64], d: usize, e: usize, gates: usize, out: &m
         let end = start + m;
         let from = first + start;
         let to = from + m;
-        put_columns(&model[from..to], d, &mut out[start..end]);
+        matrix::transpose(&model[from..to], d, &mut out[start..end]);
     }
 }
 
 // The state x put through a sequence.
 fn run_of(columns: &[f64], d: usize, sequence: &[usize], x: &mut [f64])
-    requires { ⌜ (d ≤ 16) × (length (now x) ≡ d) × ((k : ℕ) → k < length (now sequence) → getD (now sequence) k 0 * (d * d) + d * d ≤ length (now columns)) ⌝ }
-    ensures { λ _. ⌜ now (x .exit) ≡ through (λ g y. rowMatOf d y (part (g * (d * d)) (d * d) (now (columns .entry)))) (now (sequence .entry)) (now (x .entry)) ⌝ }
+    requires { ⌜ (d ≤ 16) × (length (now x) ≡ d) × Lying d (now columns) (now sequence) ⌝ }
+    ensures { λ _. ⌜ now (x .exit) ≡ throughBy d (now (columns .entry)) (now (sequence .entry)) (now (x .entry)) ⌝ }
 {
     let n = sequence.len();
     let m = d * d;
@@ -80,8 +54,8 @@ fn run_of(columns: &[f64], d: usize, sequence: &[usize], x: &mut [f64])
 
 // The same, by size.
 fn run(columns: &[f64], d: usize, sequence: &[usize], x: &mut [f64])
-    requires { ⌜ (d ≤ 16) × (length (now x) ≡ d) × ((k : ℕ) → k < length (now sequence) → getD (now sequence) k 0 * (d * d) + d * d ≤ length (now columns)) ⌝ }
-    ensures { λ _. ⌜ now (x .exit) ≡ through (λ g y. rowMatOf d y (part (g * (d * d)) (d * d) (now (columns .entry)))) (now (sequence .entry)) (now (x .entry)) ⌝ }
+    requires { ⌜ (d ≤ 16) × (length (now x) ≡ d) × Lying d (now columns) (now sequence) ⌝ }
+    ensures { λ _. ⌜ now (x .exit) ≡ throughBy d (now (columns .entry)) (now (sequence .entry)) (now (x .entry)) ⌝ }
 {
     if d == 16 {
         run_of(columns, 16, sequence, x);
@@ -116,7 +90,7 @@ fn probabilities_of(
     e: usize,
     out: &mut [f64],
 )
-    requires { ⌜ (length (now x) ≤ 16) × (e ≤ 16) × (length (now x) + e * length (now x) ≤ length (now model)) × (e ≤ length (now out)) × ((k : ℕ) → k < length (now sequence) → getD (now sequence) k 0 * (length (now x) * length (now x)) + length (now x) * length (now x) ≤ length (now columns)) ⌝ }
+    requires { ⌜ (length (now x) ≤ 16) × (e ≤ 16) × (length (now x) + e * length (now x) ≤ length (now model)) × (e ≤ length (now out)) × Lying (length (now x)) (now columns) (now sequence) ⌝ }
     ensures { λ _. ⌜ now (out .exit) ≡ probabilitiesBy (length (now (x .entry))) e (now (model .entry)) (now (columns .entry)) (now (sequence .entry)) ++ drop e (now (out .entry)) ⌝ }
 {
     let d = x.len();
@@ -134,9 +108,110 @@ pub fn probabilities(
     e: usize,
     out: &mut [f64],
 )
-    requires { ⌜ (d ≤ 16) × (e ≤ 16) × (d + e * d ≤ length (now model)) × (e ≤ length (now out)) × ((k : ℕ) → k < length (now sequence) → getD (now sequence) k 0 * (d * d) + d * d ≤ length (now columns)) ⌝ }
+    requires { ⌜ (d ≤ 16) × (e ≤ 16) × (d + e * d ≤ length (now model)) × (e ≤ length (now out)) × Lying d (now columns) (now sequence) ⌝ }
     ensures { λ _. ⌜ now (out .exit) ≡ probabilitiesBy d e (now (model .entry)) (now (columns .entry)) (now (sequence .entry)) ++ drop e (now (out .entry)) ⌝ }
 {
     let mut x = [0.0f64; 16];
     probabilities_of(model, columns, sequence, &mut x[..d], e, out);
+}
+
+// Two states, each through the sequence by gates of its own. The sequence is read once, and the processor works on one state while it waits for the other.
+fn run_both_of(
+    columns: &[f64],
+    others: &[f64],
+    d: usize,
+    sequence: &[usize],
+    x: &mut [f64],
+    y: &mut [f64],
+)
+    requires { ⌜ (d ≤ 16) × (length (now x) ≡ d) × (length (now y) ≡ d) × Lying d (now columns) (now sequence) × Lying d (now others) (now sequence) ⌝ }
+    ensures { λ _. ⌜ (now (x .exit) ≡ throughBy d (now (columns .entry)) (now (sequence .entry)) (now (x .entry))) × (now (y .exit) ≡ throughBy d (now (others .entry)) (now (sequence .entry)) (now (y .entry))) ⌝ }
+{
+    let n = sequence.len();
+    let m = d * d;
+    for k in 0..n {
+        let from = sequence[k] * m;
+        let to = from + m;
+        matrix::row_times(x, &columns[from..to], d);
+        matrix::row_times(y, &others[from..to], d);
+    }
+}
+
+// The same, by size.
+fn run_both(
+    columns: &[f64],
+    others: &[f64],
+    d: usize,
+    sequence: &[usize],
+    x: &mut [f64],
+    y: &mut [f64],
+)
+    requires { ⌜ (d ≤ 16) × (length (now x) ≡ d) × (length (now y) ≡ d) × Lying d (now columns) (now sequence) × Lying d (now others) (now sequence) ⌝ }
+    ensures { λ _. ⌜ (now (x .exit) ≡ throughBy d (now (columns .entry)) (now (sequence .entry)) (now (x .entry))) × (now (y .exit) ≡ throughBy d (now (others .entry)) (now (sequence .entry)) (now (y .entry))) ⌝ }
+{
+    if d == 16 {
+        run_both_of(columns, others, 16, sequence, x, y);
+        return;
+    }
+    if d == 4 {
+        run_both_of(columns, others, 4, sequence, x, y);
+        return;
+    }
+    run_both_of(columns, others, d, sequence, x, y);
+}
+
+// The probabilities of a sequence under two models, with room for two states.
+fn probabilities_both_of(
+    model: &[f64],
+    columns: &[f64],
+    other: &[f64],
+    others: &[f64],
+    sequence: &[usize],
+    d: usize,
+    x: &mut [f64],
+    y: &mut [f64],
+    e: usize,
+    out: &mut [f64],
+    also: &mut [f64],
+)
+    requires { ⌜ (d ≤ 16) × (e ≤ 16) × (d + e * d ≤ length (now model)) × (d + e * d ≤ length (now other)) × (e ≤ length (now out)) × (e ≤ length (now also)) × Lying d (now columns) (now sequence) × Lying d (now others) (now sequence) × (length (now x) ≡ d) × (length (now y) ≡ d) ⌝ }
+    ensures { λ _. ⌜ (now (out .exit) ≡ probabilitiesBy d e (now (model .entry)) (now (columns .entry)) (now (sequence .entry)) ++ drop e (now (out .entry))) × (now (also .exit) ≡ probabilitiesBy d e (now (other .entry)) (now (others .entry)) (now (sequence .entry)) ++ drop e (now (also .entry))) ⌝ }
+{
+    matrix::put_row(x, model);
+    matrix::put_row(y, other);
+    run_both(columns, others, d, sequence, x, y);
+    measure(model, x, e, out);
+    measure(other, y, e, also);
+}
+
+// The probabilities of a sequence under two models, at the fronts of `out` and `also`.
+pub fn probabilities_both(
+    model: &[f64],
+    columns: &[f64],
+    other: &[f64],
+    others: &[f64],
+    sequence: &[usize],
+    d: usize,
+    e: usize,
+    out: &mut [f64],
+    also: &mut [f64],
+)
+    requires { ⌜ (d ≤ 16) × (e ≤ 16) × (d + e * d ≤ length (now model)) × (d + e * d ≤ length (now other)) × (e ≤ length (now out)) × (e ≤ length (now also)) × Lying d (now columns) (now sequence) × Lying d (now others) (now sequence) ⌝ }
+    ensures { λ _. ⌜ (now (out .exit) ≡ probabilitiesBy d e (now (model .entry)) (now (columns .entry)) (now (sequence .entry)) ++ drop e (now (out .entry))) × (now (also .exit) ≡ probabilitiesBy d e (now (other .entry)) (now (others .entry)) (now (sequence .entry)) ++ drop e (now (also .entry))) ⌝ }
+{
+    let mut x = [0.0f64; 16];
+    let mut y = [0.0f64; 16];
+    probabilities_both_of(
+        model,
+        columns,
+        other,
+        others,
+        sequence,
+        d,
+        &mut x[..d],
+        &mut y[..d],
+        e,
+        out,
+        also,
+    );
 }

@@ -1,24 +1,23 @@
 -- No sheet of a gate set is refused by 16, and a refused one writes no word. Assumes nothing.
-use Prim.Native.Nat.{ℕ, _^_}
+use Prim.Native.Nat.{ℕ}
 use mathlib.Core.Path.{_≡_, refl}
 use mathlib.Core.Bool.{Bool, true, false, cond}
 use mathlib.Core.List.{List}
 use borrow.Author.Tests.{eqb-false}
-use lib.Dec.{eqb, leb, ltb}
-use lib.ListN.{length, getD}
+use lib.Dec.{eqb, ltb}
+use lib.ListN.{getD}
 use lib.Ieee.{Float, lt, eq}
-use Rattle.lists.specs.Fold.{fold}
 use Rattle.lists.proofs.Folding.{fold-keeps}
 use Rattle.numbers.specs.Number.{zeroF, positive}
 use Rattle.numbers.specs.Slice.{numberAt, at}
 use Rattle.rounding.specs.Units.{whole}
 use Rattle.logarithm.specs.Steps.{ln}
-use Rattle.refusal.specs.declared.Refusal.{Refusal}
-use Rattle.refusal.specs.declared.Refusal.the-variants.{InvalidTolerance, UnknownGate, InvalidProbabilities, CountOverflow}
+use Rattle.refusal.specs.declared.Refusal.the-variants.{InvalidTolerance, UnknownGate, InvalidProbabilities}
 use Rattle.refusal.specs.declared.Verdict.{Verdict}
 use Rattle.refusal.specs.declared.Verdict.the-variants as verdict
 use Rattle.refusal.specs.Values.{codeOf}
-use Rattle.refusal.specs.Verdicts.{firstOf, after}
+use Rattle.refusal.specs.Verdicts.{after}
+use Rattle.refusal.proofs.Lower.{Lower, lower-good, lower-test, lower-each}
 use Rattle.card_layout.specs.declared.Header.{Header}
 use Rattle.card_parts.specs.Parts.{sequenceOf}
 use Rattle.model.specs.Checked.{checkedOf}
@@ -31,10 +30,10 @@ use Rattle.likelihood.specs.declared.Likelihood.the-variants.{Fit, Failed, Refu
 use Rattle.likelihood.specs.declared.Total.{Total}
 use Rattle.likelihood.specs.declared.Total.the-variants.{Counted, TooMany}
 use Rattle.likelihood.specs.Multinomial.{clamped, failing, totalOf, countedOf, withTerm, onward, withTerms, withTotal, withRecord}
-use Rattle.diagnostics.specs.Diagnostics.{countsOf, noDiagnostics, recordOnward, likelihoodBy, likelihoodOf}
+use Rattle.diagnostics.specs.Diagnostics.{countsOf, noDiagnostics, recordOnward, likelihoodBy}
 use Rattle.outcome.specs.declared.Answer.the-variants as answer
 use Rattle.outcome.specs.Outcome.{Outcome, refused}
-use Rattle.outcome.proofs.Refusals.{Sound, Lower, lower-good, lower-refused, lower-either, lower-first, other, either, shown-sound}
+use Rattle.outcome.proofs.Refusals.{Sound, other, either, shown-sound}
 use Rattle.gst_sheets.specs.Sheets.{likelihoodSheet, toleranceSheet, diagnosticsSheet}
 
 -- a likelihood that is not refused by 16
@@ -68,9 +67,7 @@ low-after (verdict.Refused r) p q = record { low = p .low r refl }
 
 lower-present : (gates : ℕ) (sequence : List ℕ) → Lower (presentOf gates sequence)
 unfolding presentOf
-lower-present gates sequence =
-    fold-keeps _ Lower _ verdict.Good lower-good
-    (λ k v _ p. lower-first p (lower-either (ltb (getD sequence k 0) gates) lower-good (lower-refused (UnknownGate (getD sequence k 0)) (eqb-false 7 16 refl))))
+lower-present gates sequence = lower-each _ _ (λ k. lower-test (ltb (getD sequence k 0) gates) (UnknownGate (getD sequence k 0)) (eqb-false 7 16 refl))
 
 module _ (log : Float → Float) (deviance : Bool) where
   low-term : (t c p : Float) (d : Diagnostics) → Low (withTerm log deviance t c p d)

@@ -1,4 +1,4 @@
--- The sheets of a gate set and its records (document 01).
+-- The sheet of kind 7, diagnostics of a gate set (document 01; the Rust's `fit_diagnostics_with_tolerance`): word 1 is the tolerance, then the model and the records.
 use Prim.Native.Nat.{ℕ}
 use mathlib.Core.Bool.{true, cond}
 use mathlib.Core.List.{List, [], _∷_}
@@ -20,12 +20,13 @@ use Rattle.outcome.specs.Outcome.{Outcome, refused}
 abbrev pub diagnosticsWords : Diagnostics → List ℕ
 diagnosticsWords d = word (d .«log_likelihood») ∷ word (d .deviance) ∷ []
 
--- kind 7: word 1 is the tolerance, then the model and the records. The model is checked before the tolerance
+-- the two numbers, or why there are none
 abbrev pub likelihoodSheet : Likelihood → Outcome
 likelihoodSheet (likelihood.Fit d) = record { answer = answer.Diagnostics; words = diagnosticsWords d }
 likelihoodSheet likelihood.Failed = refused InvalidProbabilities
 likelihoodSheet (likelihood.Refused r) = refused r
 
+-- the model is checked before the tolerance
 unfoldable pub toleranceSheet : List ℕ → Header → Float → Outcome
 toleranceSheet s h tolerance = cond (positive tolerance) (likelihoodSheet (likelihoodOf true tolerance s h (numbersOf s h))) (refused InvalidTolerance)
 

@@ -1,7 +1,9 @@
-// The sheets of a gate set and its records.
+// The sheet of a gate set with its records, kind 7.
 use card_layout::Header;
 use likelihood::Diagnostics;
 use likelihood::Likelihood;
+use model_words::columns_room;
+use model_words::model_room;
 use outcome::Answer;
 use refusal::Refusal;
 use refusal::Verdict;
@@ -16,19 +18,6 @@ ghost use Rattle.diagnostics.specs.Diagnostics.{likelihoodOf};
 ghost use mathlib.Core.Bool.{true};
 ghost use Rattle.outcome.specs.Outcome.{Gives};
 ghost use Rattle.gst_sheets.specs.Sheets.{diagnosticsWords, likelihoodSheet, toleranceSheet, diagnosticsSheet};
-
-// Room for the numbers of a model, and for its gates by columns.
-fn model_room() -> [f64; 2320]
-    ensures { λ r. ⌜ 2320 ≡ length r ⌝ }
-{
-    [0.0; 2320]
-}
-
-fn columns_room() -> [f64; 2048]
-    ensures { λ r. ⌜ 2048 ≡ length r ⌝ }
-{
-    [0.0; 2048]
-}
 
 fn put_diagnostics(d: Diagnostics, result: &mut [u64])
     requires { ⌜ 2 ≤ length (now result) ⌝ }

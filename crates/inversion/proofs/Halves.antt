@@ -2,8 +2,8 @@
 use mathlib.Core.Path.{_≡_, refl, sym, _∙_, ap, ap₂}
 use mathlib.Core.Bool.{Bool, true, false, cond}
 use mathlib.Core.List.{List, [], _++_, append-nil}
-use Prim.Native.Nat.{ℕ, _+_, _-_, _*_, _/_, _%_, _≤_, _<_}
-use native.Mathlib.Nat.{mul-le-mul, mul-left-comm}
+use Prim.Native.Nat.{ℕ, zero, suc, _+_, _-_, _*_, _/_, _%_, _≤_, _<_}
+use native.Mathlib.Nat.{mul-le-mul, mul-left-comm, not-suc-le-zero, zero-lt-suc, div-lt-iff-lt-mul, mod-lt}
 use native.Mathlib.Omega.{arith}
 use lib.Dec.{eqb}
 use lib.ListN.{length, take, drop, set, length-append, length-drop, drop-of-length-le}
@@ -13,10 +13,11 @@ use Rattle.lists.specs.Build.{build}
 use borrow.Author.Tests.{eq-eqb, ne-eqb, eqb-true, eqb-false, lt-ltb, le-ltb}
 use Rattle.lists.proofs.Choices.{yes, no}
 use Rattle.lists.proofs.Filling.{length-build, build-same, set-build, lent-copy}
-use Rattle.lists.proofs.Parts.{row-of, column-of, lent-long}
+use Rattle.lists.proofs.Parts.{row-of, column-of, row-in, lent-long}
 use Rattle.lists.proofs.Rows.{build-append}
 use Rattle.numbers.specs.Number.{zeroF, oneF}
 use Rattle.numbers.specs.Slice.{at, blank}
+use Rattle.elimination.specs.Rows.{Agree}
 use Rattle.inversion.specs.Inversion.{besideAt, besideIdentity, rightHalves}
 
 -- number z of the matrix beside the identity
@@ -45,6 +46,22 @@ right-row n i e f u l d ys h k m g b y =
 pub length-right : (n : ℕ) (l : List Float) → length (rightHalves n l) ≡ n * n
 unfolding rightHalves
 length-right n l = length-build (n * n) _
+
+above-zero : (n z : ℕ) → z < n * n → 0 < n
+above-zero zero z h = absurd (not-suc-le-zero h)
+above-zero (suc n) z h = zero-lt-suc n
+
+-- rows that agree in the right half
+pub right-agree : (n : ℕ) (u v : List Float) → Agree n (2 * n) (n * (2 * n)) u v → rightHalves n u ≡ rightHalves n v
+unfolding rightHalves
+right-agree n u v h =
+    build-same (n * n) _ _
+    (λ z l.
+    let k : 0 < n = above-zero n z l in
+    let a : z / n < n = div-lt-iff-lt-mul k .1 l in
+    let b : z % n < n = mod-lt z k in
+    let e : z / n * (2 * n) + n + z % n ≡ z / n * (2 * n) + (n + z % n) = omega arith in
+    ap (at u) e ∙ h .2 (z / n) (n + z % n) (omega arith) (omega arith) (row-in (z / n) n (2 * n) a) ∙ sym (ap (at v) e))
 
 -- room for m rows beside the identity's is room for fewer
 pub rows-most : (n m : ℕ) → n ≤ m → n * (2 * n) ≤ m * (2 * m)

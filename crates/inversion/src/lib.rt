@@ -8,7 +8,7 @@ ghost use lib.ListN.{length, drop};
 ghost use Rattle.lists.specs.Build.{build, over};
 ghost use Rattle.lists.specs.Fold.{fold};
 ghost use Rattle.numbers.specs.Number.{zeroF, oneF};
-ghost use Rattle.inversion.specs.Inversion.{besideAt, besideIdentity, rows, columnReduced, reductionIn, rightHalves, invertible, inverseOf};
+ghost use Rattle.inversion.specs.Inversion.{besideAt, besideIdentity, Reduction, rows, columnReduced, Stands, rightHalves, invertible, inverseOf};
 
 // Row i of the identity.
 fn unit_row(row: &mut [f64], i: usize)
@@ -43,10 +43,10 @@ fn beside_identity(a: &[f64], n: usize, work: &mut [f64])
     }
 }
 
-// Clears column k, unless the reduction has ended or ends here.
+// Clears column k, unless the reduction has ended or ends here. The columns before it are left as they come, since nothing reads them again.
 fn reduce_column(work: &mut [f64], n: usize, k: usize, limit: f64, going: bool) -> bool
-    requires { ⌜ (n ≤ 16) × (k < n) × (n * (2 * n) ≤ length (now work)) ⌝ }
-    ensures { λ r. ⌜ reductionIn r (now (work .exit)) ≡ columnReduced n limit k (reductionIn going (now (work .entry))) ⌝ }
+    requires { ⌜ (n ≤ 16) × (k < n) × (length (now work) ≡ n * (2 * n)) ⌝ }
+    ensures { λ r. ⌜ ((s : Reduction) → Stands n k going (now (work .entry)) s → Stands n (k + 1) r (now (work .exit)) (columnReduced n limit k s)) ⌝ }
 {
     if !going {
         return false;
@@ -63,7 +63,7 @@ fn reduce_column(work: &mut [f64], n: usize, k: usize, limit: f64, going: bool) 
 // Column after column, on to the last also where the reduction has ended: `going` says so.
 fn reduce(a: &[f64], n: usize, limit: f64, work: &mut [f64]) -> bool
     requires { ⌜ (n ≤ 16) × (n * n ≤ length (now a)) × (length (now work) ≡ n * (2 * n)) ⌝ }
-    ensures { λ r. ⌜ reductionIn r (now (work .exit)) ≡ fold n (columnReduced n limit) (rows (besideIdentity n (now (a .entry)))) ⌝ }
+    ensures { λ r. ⌜ Stands n n r (now (work .exit)) (fold n (columnReduced n limit) (rows (besideIdentity n (now (a .entry))))) ⌝ }
 {
     beside_identity(a, n, work);
     let mut going = true;

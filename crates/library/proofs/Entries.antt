@@ -1,6 +1,6 @@
 -- The verdicts of the library's entries, and their outcomes carried from a call to its caller. Assumes nothing.
-use Prim.Native.Nat.{ℕ, _*_, _^_, _≤_, _<_}
-use mathlib.Core.Bool.{Bool, true, false, cond}
+use Prim.Native.Nat.{ℕ, _^_, _≤_, _<_}
+use mathlib.Core.Bool.{true, cond}
 use mathlib.Core.Path.{_≡_, refl, sym, ap, subst, _∙_}
 use mathlib.Core.List.{List, [], _++_}
 use native.Mathlib.Nat.{pos-of-ne-zero}
@@ -10,7 +10,7 @@ use lib.Dec.{eqb, leb, ltb}
 use lib.ListN.{length, drop}
 use lib.Ieee.{Float}
 use Rattle.lists.proofs.Choices.{yes, no}
-use Rattle.sizes.proofs.Small.{square-most, four-most}
+use Rattle.sizes.proofs.Small.{four-most}
 use Rattle.booleans.proofs.Joined.{or-left, or-right, or-no, neither}
 use Rattle.refusal.specs.declared.Refusal.{Refusal}
 use Rattle.refusal.specs.declared.Refusal.the-variants.{InvalidQubits, InvalidCard}
@@ -89,9 +89,6 @@ module _ (n index : ℕ) where
 
 pub size-two : (n p : ℕ) → n ≤ 2 → p ≡ 4 ^ n → p ≤ 16
 size-two n p h e = omega (arith, four-most n h, e)
-
-pub parts-two : (n : ℕ) → n ≤ 2 → 2 * (4 ^ n * 4 ^ n) ≤ 512
-parts-two n h = omega (arith, square-most (4 ^ n) (four-most n h))
 
 -- the number of qubits is tested first: v is the verdict that follows, and the numbers are what is computed then
 first-few : (most n : ℕ) (v : Verdict) → Good ≡ firstOf (qubitsOf most n) v → n ≤ most

@@ -1,4 +1,4 @@
--- What a caller may rely on of the library's refusals: one writes no word of the result, and 16 is given in its case and in no other (the laws of `Sound`
+-- What a caller may rely on of the library's refusals: one writes no word of the result, and 16 is given only where a slice is too short (the laws of `Sound`
 -- in the crate outcome). Assumes nothing.
 use Prim.Native.Nat.{ℕ, _*_, _^_}
 use mathlib.Core.Path.{refl}
@@ -9,6 +9,7 @@ use lib.Dec.{eqb, leb, ltb}
 use lib.Ieee.{Float}
 use Rattle.numbers.specs.Slice.{wordsOf}
 use Rattle.refusal.specs.declared.Refusal.the-variants.{InvalidQubits, Operator, InvalidCard}
+use Rattle.refusal.proofs.Lower.{Lower, lower-good, lower-refused, lower-either, lower-first, lower-finite, lower-numbers}
 use Rattle.matrix.specs.Product.{matVecOf}
 use Rattle.transfer.specs.Apply.{appliedOf}
 use Rattle.choi.specs.Choi.{choiOf, choiTested, normalizedChoi}
@@ -18,7 +19,7 @@ use Rattle.gate_set.specs.GateSet.{probabilitiesOf}
 use Rattle.sequences.specs.Sequences.{sequenceVerdict}
 use Rattle.sequences.proofs.Refusals.{lower-sequence}
 use Rattle.outcome.specs.declared.Answer.the-variants.{Probes, Setting, Applied, Choi, Probabilities}
-use Rattle.outcome.proofs.Refusals.{Sound, Lower, lower-good, lower-refused, lower-either, lower-first, lower-finite, lower-numbers, shown-sound}
+use Rattle.outcome.proofs.Refusals.{Sound, shown-sound}
 use Rattle.library.specs.Entries.{qubitsOf, settingVerdict, applyVerdict, probesEntry, settingEntry, applyEntry, choiVerdict, choiEntry, probabilitiesEntry}
 
 lower-qubits : (most n : ℕ) → Lower (qubitsOf most n)

@@ -5,8 +5,8 @@ use mathlib.Core.Path.{_≡_}
 use mathlib.Core.List.{List}
 use Prim.Native.Nat.{ℕ, _+_, _-_, _*_, _<_}
 use lib.Dec.{ltb}
-use lib.ListN.{getD, set, length}
-use lib.Ieee.{Float, nan, lt, le, neg}
+use lib.ListN.{getD, set}
+use lib.Ieee.{Float, lt, le, neg}
 use Rattle.lists.specs.Fold.{fold}
 use Rattle.numbers.specs.Number.{zeroF, oneF, max}
 use Rattle.numbers.specs.Slice.{at}

@@ -1,9 +1,9 @@
 // The pivot of classical Jacobi: the largest magnitude above the diagonal. A square root costs more than all else that is done to an entry, so a bound of each
 // magnitude is kept, and the magnitude itself once the bound did not rule it out.
 ghost use mathlib.Core.Path.{_≡_};
-ghost use Prim.Native.Nat.{_+_, _*_, _≤_, _<_};
-ghost use lib.ListN.{length, getD};
-ghost use Rattle.entries.specs.Entries.{entries, nowhere};
+ghost use Prim.Native.Nat.{_+_, _*_, _<_};
+ghost use lib.ListN.{length};
+ghost use Rattle.entries.specs.Entries.{entries};
 ghost use Rattle.magnitudes.specs.Pivot as spec;
 ghost use Rattle.magnitudes.specs.Notes.{notes, found, widened, noted, notedCross, renoted, measured, looked, lookedIn, searched};
 use complex::Complex;

@@ -31,3 +31,7 @@ rowMatOf n x a = build n (λ j. sumOf n (λ i. at x i *ᶠ cell n a i j))
 -- the product of two matrices, by rows: number z is entry (z / n, z % n)
 unfoldable pub matMulOf : ℕ → List Float → List Float → List Float
 matMulOf n a b = build (n * n) (λ z. sumOf n (λ k. cell n a (z / n) k *ᶠ cell n b k (z % n)))
+
+-- the transpose of a, by rows: number z is entry (z % n, z / n) of a
+unfoldable pub transposedOf : ℕ → List Float → List Float
+transposedOf n a = build (n * n) (λ z. cell n a (z % n) (z / n))

@@ -2,12 +2,12 @@
 // are passed on as constants, so that the compiler unrolls their loops and keeps a row in registers.
 ghost use mathlib.Core.Path.{_≡_};
 ghost use mathlib.Core.List.{_++_};
-ghost use Prim.Native.Nat.{_+_, _*_, _≤_};
+ghost use Prim.Native.Nat.{_+_, _*_, _≤_, _<_};
 ghost use lib.ListN.{length, take, drop};
 ghost use Rattle.lists.specs.Build.{build};
 ghost use Rattle.numbers.specs.Number.{minusZeroF, _+ᶠ_, _*ᶠ_};
 ghost use Rattle.numbers.specs.Slice.{at};
-ghost use Rattle.matrix.specs.Product.{dotOf, matVecOf, rowMatOf, matMulOf};
+ghost use Rattle.matrix.specs.Product.{cell, dotOf, matVecOf, rowMatOf, matMulOf, transposedOf};
 
 // a · b, over the entries of a.
 pub fn dot(a: &[f64], b: &[f64]) -> f64
@@ -165,4 +165,38 @@ pub fn mat_mul(a: &[f64], b: &[f64], n: usize, out: &mut [f64])
         return;
     }
     mat_mul_of(a, b, n, out);
+}
+
+// Column j of the matrix a.
+fn put_column(a: &[f64], n: usize, j: usize, row: &mut [f64])
+    requires { ⌜ (n ≤ 16) × (n * n ≤ length (now a)) × (j < n) × (length (now row) ≡ n) ⌝ }
+    ensures { λ _. ⌜ now (row .exit) ≡ build n (λ i. cell n (now (a .entry)) i j) ⌝ }
+{
+    for i in 0..n {
+        row[i] = a[i * n + j];
+    }
+}
+
+// Column after column of a, each as a row.
+fn transpose_of(a: &[f64], n: usize, out: &mut [f64])
+    requires { ⌜ (n ≤ 16) × (n * n ≤ length (now a)) × (n * n ≤ length (now out)) ⌝ }
+    ensures { λ _. ⌜ now (out .exit) ≡ transposedOf n (now (a .entry)) ++ drop (n * n) (now (out .entry)) ⌝ }
+{
+    for j in 0..n {
+        let start = j * n;
+        let end = start + n;
+        put_column(a, n, j, &mut out[start..end]);
+    }
+}
+
+// The transpose of the matrix a, into the first n * n numbers of `out`.
+pub fn transpose(a: &[f64], n: usize, out: &mut [f64])
+    requires { ⌜ (n ≤ 16) × (n * n ≤ length (now a)) × (n * n ≤ length (now out)) ⌝ }
+    ensures { λ _. ⌜ now (out .exit) ≡ transposedOf n (now (a .entry)) ++ drop (n * n) (now (out .entry)) ⌝ }
+{
+    if n == 16 {
+        transpose_of(a, 16, out);
+        return;
+    }
+    transpose_of(a, n, out);
 }

@@ -1,5 +1,5 @@
 -- Runs of a card's numbers, tested part by part. Assumes nothing.
-use Prim.Native.Nat.{ℕ, suc, _+_, _-_, _*_, _≤_, _<_}
+use Prim.Native.Nat.{ℕ, _+_, _-_, _≤_}
 use mathlib.Core.Path.{_≡_, refl, sym, ap, _∙_}
 use mathlib.Core.Bool.{Bool, true, false, not, _&&_}
 use mathlib.Core.List.{List, [], _∷_, _++_}
@@ -10,7 +10,6 @@ use lib.Ieee.{Float}
 use Rattle.lists.specs.Build.{from, build}
 use Rattle.lists.proofs.Filling.{build-none, build-same}
 use Rattle.lists.proofs.Rows.{build-append}
-use Rattle.booleans.proofs.Joined.{and-both}
 use Rattle.numbers.specs.Number.{number, finite}
 use Rattle.numbers.specs.Word.{wordAt}
 use Rattle.numbers.specs.Slice.{numberAt, numbersAt, allFinite}
@@ -30,14 +29,6 @@ and-assoc false b c = refl
 four-built : (f : ℕ → Float) (x y z t : Float) → x ≡ f 0 → y ≡ f 1 → z ≡ f 2 → t ≡ f 3 → x ∷ y ∷ z ∷ t ∷ [] ≡ build 4 f
 unfolding build from
 four-built f x y z t p q r s = cc
-
--- each of four that all hold
-pub all-four : (p q r s : Bool) → ((p && q) && (r && s)) ≡ true → (p ≡ true) × (q ≡ true) × (r ≡ true) × (s ≡ true)
-all-four p q r s h =
-    let e = and-both (p && q) (r && s) h in
-    let f = and-both p q (e .0) in
-    let g = and-both r s (e .1) in
-    (f .0, f .1, g .0, g .1)
 
 numbers-joined : (s : List ℕ) (p a b : ℕ) → numbersAt s p (a + b) ≡ numbersAt s p a ++ numbersAt s (p + a) b
 unfolding numbersAt

@@ -7,8 +7,8 @@ use borrow.Author.Tests.{eqb-false}
 use lib.Dec.{eqb}
 use Rattle.numbers.specs.Slice.{allFinite}
 use Rattle.refusal.specs.declared.Refusal.the-variants.{Shape, NonFinite, InvalidGstOptimization}
+use Rattle.refusal.proofs.Lower.{Lower, lower-good, lower-refused, lower-either}
 use Rattle.card_layout.specs.declared.Header.{Header}
-use Rattle.outcome.proofs.Refusals.{Lower, lower-good, lower-refused, lower-either}
 use Rattle.model.specs.Checked.{anyOf, Parts, badName, badGate, testedOf, onCard, checkedOf}
 
 pub lower-tested : (m : Parts) → Lower (testedOf m)

@@ -1,13 +1,12 @@
 -- The loops over a model's parts. Assumes nothing.
-use Prim.Native.Nat.{ℕ, _+_, _≤_, _<_}
-use mathlib.Core.Path.{_≡_, refl, sym, ap, _∙_}
+use Prim.Native.Nat.{ℕ, _+_, _<_}
+use mathlib.Core.Path.{_≡_, refl, ap, _∙_}
 use mathlib.Core.Bool.{Bool, true, false, not, _||_}
 use mathlib.Core.List.{List}
 use borrow.Author.Tests.{eq-eqb, ne-eqb}
-use lib.Ieee.{Float, nan}
-use Rattle.lists.specs.Fold.{fold}
+use lib.Ieee.{nan}
 use Rattle.lists.proofs.Choices.{yes, no}
-use Rattle.lists.proofs.Folding.{fold-none, fold-more, fold-end}
+use Rattle.lists.proofs.Folding.{fold-none, fold-more}
 use Rattle.lists.proofs.Filling.{getD-build}
 use Rattle.numbers.specs.Slice.{at, numberAt, numbersAt, allFinite}
 use Rattle.refusal.specs.declared.Refusal.the-variants.{Shape, NonFinite, InvalidGstOptimization}

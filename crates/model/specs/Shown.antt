@@ -1,10 +1,9 @@
--- A number that is finite by its word's first byte.
-use mathlib.Core.Bool.{Bool}
+-- The first bytes of words, which hold seven bits of their exponents.
 use mathlib.Core.List.{List}
-use Prim.Native.Nat.{ℕ, _*_, _%_}
-use lib.Dec.{ltb}
+use Prim.Native.Nat.{ℕ, _+_, _*_}
+use lib.Bits.{bitOr}
 use lib.ListN.{getD}
 
--- the first byte of word p: the exponent's seven bits in it are not all ones
-abbrev pub shown : List ℕ → ℕ → Bool
-shown s p = ltb (getD s (p * 8) 0 % 128) 127
+-- the bits of the first bytes of four words together
+unfoldable pub firstBytes : List ℕ → ℕ → ℕ
+firstBytes s p = bitOr (bitOr (getD s (p * 8) 0) (getD s ((p + 1) * 8) 0)) (bitOr (getD s ((p + 2) * 8) 0) (getD s ((p + 3) * 8) 0))

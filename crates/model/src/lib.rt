@@ -1,5 +1,4 @@
 // The model of a card of kinds 5 to 7, tested where it lies.
-use booleans::both;
 use booleans::either;
 use card_layout::Header;
 use card_parts::name_of;
@@ -12,30 +11,21 @@ use refusal::Refusal;
 use refusal::Verdict;
 use sizes::square;
 ghost use mathlib.Core.Path.{_≡_};
-ghost use Prim.Native.Nat.{ℕ, _+_, _*_, _≤_, _<_};
+ghost use Prim.Native.Nat.{_+_, _*_, _≤_, _<_};
 ghost use lib.ListN.{length};
 ghost use Rattle.numbers.specs.Slice.{numbersAt, allFinite};
 ghost use Rattle.card_places.specs.Shape.{Shaped};
 ghost use Rattle.card_parts.specs.Model.{nameOf};
-ghost use Rattle.model.specs.Shown.{shown};
+ghost use Rattle.model.specs.Shown.{firstBytes};
 ghost use Rattle.model.specs.Checked.{badName, badEffect, badGate, anyOf, onCard, checkedOf};
-ghost use mathlib.Core.Bool.{false, not, _&&_};
+ghost use mathlib.Core.Bool.{true, false};
 
-// Whether the first byte of a word shows that its number is finite: the exponent's seven bits in it are not all ones.
-fn is_shown(card: &[u8], place: usize) -> bool
-    requires { ⌜ place * 8 + 8 ≤ length (now card) ⌝ }
-    ensures { λ r. ⌜ r ≡ shown (now (card .entry)) place ⌝ }
-{
-    card[place * 8] % 128 < 127
-}
-
-fn are_shown(card: &[u8], from: usize) -> bool
+// The bits of the first bytes of four words together. Where they leave one of the exponent's seven clear, all four numbers are finite.
+fn first_bytes(card: &[u8], from: usize) -> u8
     requires { ⌜ (from + 4) * 8 ≤ length (now card) ⌝ }
-    ensures { λ r. ⌜ r ≡ ((shown (now (card .entry)) from && shown (now (card .entry)) (from + 1)) && (shown (now (card .entry)) (from + 2) && shown (now (card .entry)) (from + 3))) ⌝ }
+    ensures { λ r. ⌜ r ≡ firstBytes (now (card .entry)) from ⌝ }
 {
-    let first = both(is_shown(card, from), is_shown(card, from + 1));
-    let last = both(is_shown(card, from + 2), is_shown(card, from + 3));
-    both(first, last)
+    (card[from * 8] | card[(from + 1) * 8]) | (card[(from + 2) * 8] | card[(from + 3) * 8])
 }
 
 // Whether the four numbers from word `from` on are finite, each tested by its word.
@@ -55,12 +45,12 @@ fn four_tested(card: &[u8], from: usize) -> bool
     is_finite_word(word_at(card, from + 3))
 }
 
-// The same. Of nearly every number the first byte shows it.
+// The same. Of nearly all numbers the first bytes show it.
 fn four_finite(card: &[u8], from: usize) -> bool
     requires { ⌜ (from + 4) * 8 ≤ length (now card) ⌝ }
     ensures { λ r. ⌜ r ≡ allFinite (numbersAt (now (card .entry)) from 4) ⌝ }
 {
-    if are_shown(card, from) {
+    if first_bytes(card, from) % 128 < 127 {
         return true;
     }
     four_tested(card, from)
@@ -73,6 +63,27 @@ fn fours_finite(card: &[u8], from: usize, count: usize) -> bool
 {
     for i in 0..count {
         if !four_finite(card, from + i * 4) {
+            return false;
+        }
+    }
+    true
+}
+
+// Whether the first bytes of eight words show it, as they do of eight that are all below 2.
+fn eight_shown(card: &[u8], from: usize) -> bool
+    requires { ⌜ (from + 8) * 8 ≤ length (now card) ⌝ }
+    ensures { λ r. ⌜ (r ≡ true → true ≡ allFinite (numbersAt (now (card .entry)) from 8)) ⌝ }
+{
+    (first_bytes(card, from) | first_bytes(card, from + 4)) % 128 < 127
+}
+
+// Whether those of eight times `count` words do.
+fn eights_shown(card: &[u8], from: usize, count: usize) -> bool
+    requires { ⌜ (from + count * 8) * 8 ≤ length (now card) ⌝ }
+    ensures { λ r. ⌜ (r ≡ true → true ≡ allFinite (numbersAt (now (card .entry)) from (count * 8))) ⌝ }
+{
+    for i in 0..count {
+        if !eight_shown(card, from + i * 8) {
             return false;
         }
     }
@@ -92,8 +103,8 @@ fn each_finite(card: &[u8], from: usize, n: usize) -> bool
     true
 }
 
-// Whether the n numbers from word `from` on are finite. Four at a time take half the time.
-pub fn are_finite(card: &[u8], from: usize, n: usize) -> bool
+// Four at a time, and the rest one by one.
+fn are_finite_each(card: &[u8], from: usize, n: usize) -> bool
     requires { ⌜ (from + n) * 8 ≤ length (now card) ⌝ }
     ensures { λ r. ⌜ r ≡ allFinite (numbersAt (now (card .entry)) from n) ⌝ }
 {
@@ -103,6 +114,19 @@ pub fn are_finite(card: &[u8], from: usize, n: usize) -> bool
         return false;
     }
     each_finite(card, from + done, n - done)
+}
+
+// Whether the n numbers from word `from` on are finite. Nearly always a look at their first bytes is enough.
+pub fn are_finite(card: &[u8], from: usize, n: usize) -> bool
+    requires { ⌜ (from + n) * 8 ≤ length (now card) ⌝ }
+    ensures { λ r. ⌜ r ≡ allFinite (numbersAt (now (card .entry)) from n) ⌝ }
+{
+    if n % 8 == 0 {
+        if eights_shown(card, from, n / 8) {
+            return true;
+        }
+    }
+    are_finite_each(card, from, n)
 }
 
 fn bad_effect(card: &[u8], h: Header) -> bool

@@ -1,7 +1,7 @@
 -- Where a model's numbers stand among its words, and on the card. Assumes nothing.
 use Prim.Native.Nat.{ℕ, suc, _+_, _*_, _<_}
-use mathlib.Core.Path.{_≡_, refl, sym, ap, _∙_}
-use mathlib.Core.List.{List, _++_}
+use mathlib.Core.Path.{_≡_, ap, _∙_}
+use mathlib.Core.List.{List}
 use native.Mathlib.Omega.{arith}
 use lib.ListN.{length, getD, drop, length-append, List·getD-append}
 use lib.Seq.{getD-drop}

@@ -1,4 +1,4 @@
-// The words of a model, as a sheet shows them: its numbers, and between them the gates' names from the card.
+// A model's numbers, from the card, and its words, as a sheet shows them: the numbers', and between them the gates' names from the card.
 use card_layout::Header;
 use card_parts::load_gate;
 use card_parts::name_of;
@@ -31,6 +31,19 @@ pub fn model_numbers(h: Header) -> usize
 {
     let g = h.gates;
     vector_numbers(h) + g * square(h.dimension)
+}
+
+// Room for the numbers of a model, and for its gates by columns; the `ensures` gives the length, which lending a part needs.
+pub fn model_room() -> [f64; 2320]
+    ensures { λ r. ⌜ 2320 ≡ length r ⌝ }
+{
+    [0.0; 2320]
+}
+
+pub fn columns_room() -> [f64; 2048]
+    ensures { λ r. ⌜ 2048 ≡ length r ⌝ }
+{
+    [0.0; 2048]
 }
 
 // Puts the numbers of the gates at the front of the slice.

@@ -4,3 +4,4 @@ pub mod Products
 pub mod Slices
 pub mod Shifts
 pub mod Order
+pub mod Fours

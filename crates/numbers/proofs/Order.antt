@@ -1,6 +1,6 @@
 -- The order of numbers: what is at most another is not above it, and what is at most a number between them neither. Assumes nothing.
-use mathlib.Core.Path.{_≡_, refl, sym, _∙_, subst}
-use mathlib.Core.Bool.{Bool, true, false, not, _&&_, _||_}
+use mathlib.Core.Path.{_≡_, refl, sym, subst}
+use mathlib.Core.Bool.{Bool, true, false, _&&_, _||_}
 use mathlib.Core.Logic.{_⊎_, inl, inr}
 use Prim.Native.Nat.{ℕ, _+_, _*_, _<_, _≤_}
 use native.Mathlib.Nat.{le-of-eq, le-of-lt, eq-zero-or-pos, lt-irrefl, mul-pos, zero-mul}
@@ -9,7 +9,7 @@ use lib.Dec.{eqb, ltb}
 use lib.Ieee.{Float, nan, inf, fin, up, down, lt, le, below, level}
 use lib.Ieee.Fits.{down-pos}
 use lib.Ieee.Positive.{through}
-use borrow.Author.Tests.{ltb-true, ltb-false, eqb-true, le-ltb}
+use borrow.Author.Tests.{ltb-true, eqb-true, le-ltb}
 use Rattle.numbers.specs.Number.{negative}
 use Rattle.numbers.proofs.Leaves.{clash}
 

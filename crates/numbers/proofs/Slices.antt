@@ -1,5 +1,5 @@
 -- Numbers and words of slices: how many there are, and that only the front counts. Assumes nothing.
-use Prim.Native.Nat.{ℕ, _≤_, _<_}
+use Prim.Native.Nat.{ℕ, _≤_}
 use mathlib.Core.Path.{_≡_, ap}
 use mathlib.Core.List.{List, _++_}
 use native.Mathlib.Nat.{lt-of-lt-of-le}

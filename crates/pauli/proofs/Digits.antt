@@ -1,5 +1,5 @@
 -- The loop over a string's digits, from the lowest: what is found so far, and what is left to find. Assumes nothing.
-use mathlib.Core.Path.{_≡_, refl, sym, _∙_, ap, subst}
+use mathlib.Core.Path.{_≡_, _∙_, ap, subst}
 use Prim.Native.Nat.{ℕ, zero, suc, _+_, _-_, _*_, _/_, _%_, _^_, _<_, _≤_}
 use native.Mathlib.Nat.{mul-one, one-mul, mul-assoc, mul-comm, mul-add, mul-le-mul-left, le-mul-of-pos-right, mul-le-mul, mul-zero, two-pow-succ}
 use native.Mathlib.Omega.{arith}

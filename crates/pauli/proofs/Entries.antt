@@ -1,15 +1,14 @@
 -- The tensor product's entries: in each row of a string one is a power of i, and the others are zero. Assumes nothing.
-use mathlib.Core.Path.{_≡_, refl, sym, _∙_, ap, ap₂, subst}
+use mathlib.Core.Path.{_≡_, refl, _∙_, ap₂}
 use mathlib.Core.Bool.{Bool, true, false, cond}
-use mathlib.Core.Logic.{⊎-elim}
-use Prim.Native.Nat.{ℕ, zero, suc, _+_, _-_, _*_, _/_, _%_, _^_, _<_, _≤_}
+use Prim.Native.Nat.{ℕ, zero, suc, _+_, _-_, _*_, _/_, _%_, _^_, _<_}
 use native.Mathlib.Nat.{two-pow-succ}
 use native.Mathlib.Omega.{arith}
-use lib.Dec.{eqb, ltb, lit<}
+use lib.Dec.{eqb, lit<}
 use borrow.Author.Tests.{eq-eqb, ne-eqb, eqb-true, eqb-false}
-use lib.IntN.{ℤ, pos, negsuc, zero-*ℤ, *ℤ-zero}
+use lib.IntN.{ℤ, zero-*ℤ, *ℤ-zero}
 use Rattle.lists.proofs.Choices.{yes, no}
-use Rattle.pauli.specs.Exact.{Gaussian, none, one, i, minusOne, minusI, product, pauliMatrices, pauliEntry, stringEntry}
+use Rattle.pauli.specs.Exact.{Gaussian, none, one, i, product, pauliMatrices, pauliEntry, stringEntry}
 use Rattle.pauli.specs.Entry.{flipped, turned, filledColumn, filledPower, powerOfI}
 use Rattle.pauli.proofs.Digits.{power-small}
 

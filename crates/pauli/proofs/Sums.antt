@@ -1,33 +1,32 @@
 -- Sums of strings, part by part: what one row of a string changes, what a whole string changes, and what all strings sum to. Assumes nothing.
 use mathlib.Core.Path.{_≡_, refl, sym, _∙_, ap, ap₂, subst}
 use mathlib.Core.Bool.{Bool, true, false, cond}
-use mathlib.Core.List.{List, _++_}
+use mathlib.Core.List.{List}
 use Prim.Native.Nat.{ℕ, zero, suc, _+_, _-_, _*_, _/_, _%_, _^_, _<_, _≤_}
-use native.Mathlib.Nat.{div-add-mod', div-lt-iff-lt-mul, mod-lt, mul-comm}
+use native.Mathlib.Nat.{div-add-mod', div-lt-iff-lt-mul, mod-lt}
 use native.Mathlib.Omega.{arith}
 use lib.Dec.{T, eqb, ltb}
-use lib.IntN.{ℤ, pos, negsuc}
+use lib.IntN.{pos}
 use lib.Pow.{pow-pos}
-use lib.ListN.{length, set, getD}
+use lib.ListN.{length}
 use lib.Ieee.{Float, nan, inf, fin, binary64, fits, ofBits, ofFields, odd, neg, round, units, span, climb, size, ofInt}
 use lib.Ieee.Fits.{add-fits, mul-fits}
-use borrow.Author.Tests.{eq-eqb, ne-eqb, eqb-true, eqb-false, lt-ltb, le-ltb, ltb-true, ltb-false}
+use borrow.Author.Tests.{eq-eqb, eqb-true, lt-ltb, le-ltb, ltb-true, ltb-false}
 use Rattle.lists.specs.Build.{build}
 use Rattle.lists.specs.Fold.{fold}
 use Rattle.lists.proofs.Filling.{length-build, getD-build, build-same, build-all, set-build}
 use Rattle.lists.proofs.Folding.{build-fold, fold-none, fold-more}
 use Rattle.lists.proofs.Parts.{entry-fits, row-of, column-of}
 use Rattle.numbers.specs.Number.{zeroF, oneF, _+ᶠ_, _*ᶠ_, _/ᶠ_, finite, Plain}
-use Rattle.numbers.specs.Slice.{at, allFinite}
+use Rattle.numbers.specs.Slice.{at}
 use Rattle.numbers.proofs.Leaves.{clash}
 use Rattle.rounding.proofs.Zeros.{zero-times, add-nothing, add-plain, finite-over}
-use Rattle.pauli.specs.Exact.{Gaussian, none, stringEntry}
+use Rattle.pauli.specs.Exact.{Gaussian, none}
 use Rattle.pauli.specs.Entry.{filledColumn, filledPower, powerOfI, filledPlace, unitOf, withEntry, AllPlain}
 use Rattle.pauli.specs.Density.{partOf, stringPart, pinned, weight, densityPart, withString, densityOf, testedOf}
 use Rattle.refusal.specs.declared.Verdict.{Verdict}
 use Rattle.refusal.specs.Verdicts.{finiteOr}
 use Rattle.refusal.specs.declared.Refusal.the-variants.{Operator}
-use Rattle.lists.proofs.Choices.{yes, no}
 use Rattle.pauli.proofs.Digits.{power-small}
 use Rattle.pauli.proofs.Entries.{below-two, below-four, rowOf, entry-is, column-small}
 

@@ -3,7 +3,7 @@ use mathlib.Core.Path.{_≡_, _∙_, ap}
 use mathlib.Core.Bool.{Bool, true, _&&_}
 use mathlib.Core.List.{List}
 use Prim.Native.Nat.{ℕ, _+_, _*_, _<_, _≤_}
-use native.Mathlib.Nat.{mul-one, zero-mul, mul-le-mul, mul-le-mul-left}
+use native.Mathlib.Nat.{mul-one, zero-mul, mul-le-mul-left}
 use native.Mathlib.Omega.{arith}
 use lib.Ieee.{Float}
 use Rattle.lists.proofs.Folding.{fold-none, fold-more, fold-end, fold-same}
@@ -30,9 +30,6 @@ pub step-in : (k p step : ℕ) → k < p → step ≤ p → k * step < p * p
 step-in k p step h s =
     let w : k * step ≤ k * p = mul-le-mul-left k s in
     omega (arith, entry-fits k 0 p p h (omega arith))
-
-pub square-small : (p : ℕ) → p ≤ 16 → p * p ≤ 256
-square-small p h = mul-le-mul h h
 
 -- ---- the loop over them: what is found after k numbers
 

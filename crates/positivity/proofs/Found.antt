@@ -12,15 +12,15 @@ use Rattle.refusal.specs.declared.Verdict.{Verdict}
 use Rattle.refusal.specs.declared.Verdict.the-variants.{Good, Refused}
 use Rattle.refusal.specs.Verdicts.{firstOf, checkedNumbers}
 use Rattle.entries.specs.Entries.{entries}
-use Rattle.eigen.specs.Jacobi.{Values, values, unknownValues, eigenvaluesOf, toldValues}
+use Rattle.eigen.specs.Jacobi.{Values, values, eigenvaluesOf, toldValues}
 use Rattle.choi.specs.Choi.{choiOf, choiTested, normalizedChoi, choiNumbers}
 use Rattle.choi.proofs.Values.{good-choi, length-choi}
 use Rattle.lists.specs.Build.{over}
 use Rattle.lists.proofs.Parts.{front-again, front-fits, front-length}
-use Rattle.sizes.proofs.Small.{square-most, four-some, four-most}
+use Rattle.sizes.proofs.Small.{four-some, four-most}
 use Rattle.positivity.specs.declared.Positivity.{Positivity}
 use Rattle.positivity.specs.declared.Positivity.the-variants as positivity
-use Rattle.positivity.specs.Positivity.{noneBelow, known, allFrom, toleranceOf, choiValues, positivityVerdict, completelyPositive, told, judged}
+use Rattle.positivity.specs.Positivity.{noneBelow, known, toleranceOf, choiValues, positivityVerdict, completelyPositive, told, judged}
 
 -- ---- eigenvalues, as a call gave them
 
@@ -34,9 +34,6 @@ module _ (t : Float) (w : List Float) (v : Values) where
   values-unknown b e f = ap (λ (x : Bool). judged t (toldValues x w)) (sym f) ∙ ap (judged t) e
 
 -- ---- the Choi matrix, as a call gave it
-
-pub size-most : (n : ℕ) → n ≤ 2 → 2 * (4 ^ n * 4 ^ n) ≤ 512
-size-most n h = omega (arith, square-most (4 ^ n) (four-most n h))
 
 pub rows-in : (n p : ℕ) → n ≤ 2 → p ≡ 4 ^ n → (0 < p) × (p ≤ 16)
 rows-in n p h e = (omega (arith, four-some n, e), omega (arith, four-most n h, e))

@@ -8,7 +8,6 @@ use lib.Ieee.{Float, le, neg}
 use Rattle.lists.specs.Fold.{fold}
 use Rattle.numbers.specs.Number.{positive}
 use Rattle.numbers.specs.Slice.{at}
-use Rattle.refusal.specs.declared.Refusal.{Refusal}
 use Rattle.refusal.specs.declared.Refusal.the-variants.{InvalidTolerance, EigensolverDidNotConverge}
 use Rattle.refusal.specs.declared.Verdict.{Verdict}
 use Rattle.refusal.specs.declared.Verdict.the-variants.{Good, Refused}

@@ -1,4 +1,5 @@
 // Complete positivity of a process, by the eigenvalues of its normalized Choi matrix.
+use eigen::matrix_room;
 use refusal::Refusal;
 use refusal::Verdict;
 use sizes::four_to;
@@ -29,17 +30,11 @@ fn none_below(bound: f64, w: &[f64]) -> bool
     good
 }
 
-// Room for an eigenvalue of each row, and for the parts of a matrix.
+// Room for an eigenvalue of each row.
 fn values_room() -> [f64; 16]
     ensures { λ r. ⌜ length r ≡ 16 ⌝ }
 {
     [0.0; 16]
-}
-
-fn matrix_room() -> [f64; 512]
-    ensures { λ r. ⌜ length r ≡ 512 ⌝ }
-{
-    [0.0; 512]
 }
 
 // The eigenvalues of the p by p matrix, beside minus the tolerance.

@@ -19,7 +19,7 @@ pub enum Refusal {
     SingularGaugeTransform,
     SingularProcessDesign,
     EigensolverDidNotConverge,
-    // The reason: 1 controls, 2 no records, 3 no coordinates, 4 repeated coordinate, 5 non-finite gradient, 6 name zero or repeated.
+    // The reason: 1 for the controls, 2 for no records, 3 for no coordinates, 4 for a coordinate that stands twice, 5 for a gradient that is not finite, 6 for a bad name.
     InvalidGstOptimization(u64),
     // The place among the coordinates.
     InvalidGstParameter(u64),

@@ -1,5 +1,5 @@
 -- The square root of x is at most k where x is at most the square of k. Assumes nothing.
-use mathlib.Core.Path.{_≡_, refl, sym, _∙_, ap, subst}
+use mathlib.Core.Path.{_≡_, refl, sym, subst}
 use mathlib.Core.Bool.{Bool, true, false}
 use Prim.Native.Nat.{ℕ, _+_, _*_, _/_, _%_, _^_, _<_, _≤_}
 use native.Mathlib.Nat.{add-mul, mul-add, mul-le-mul, mul-le-mul-right}
@@ -14,7 +14,6 @@ use Rattle.rounding.proofs.Units.{units-of-value}
 use Rattle.rounding.proofs.Below.{Below}
 use Rattle.significand.specs.Significand.{significandOf, exponentOf}
 use Rattle.root.specs.Root.{nearRoot, rootOf, sqrt}
-use Rattle.root.specs.Nearest.{Nearest}
 use Rattle.root.proofs.Cases.{of-positive}
 use Rattle.root.proofs.Nearest.{nearest, not-infinite}
 

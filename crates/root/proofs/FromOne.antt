@@ -1,7 +1,7 @@
 -- The root of a number from 1 to 2, by the digits of both. Assumes nothing.
 use mathlib.Core.Path.{_≡_, refl, sym, _∙_, ap, subst}
 use mathlib.Core.Bool.{false}
-use Prim.Native.Nat.{ℕ, _+_, _*_, _%_, _^_, _<_, _≤_}
+use Prim.Native.Nat.{ℕ, _+_, _*_, _^_, _<_, _≤_}
 use native.Mathlib.Nat.{lt-of-lt-of-le, mul-pos}
 use native.Mathlib.Omega.{arith}
 use lib.Dec.{T, lit≤}

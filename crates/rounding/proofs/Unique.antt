@@ -1,19 +1,18 @@
 -- Numbers by their values: what is written in one way, what rounding leaves as it is, and sums to which a zero is added. Assumes nothing.
 use mathlib.Core.Path.{_≡_, refl, sym, _∙_, ap, ap₂, subst}
-use mathlib.Core.Bool.{Bool, true, false, not, _&&_, _||_, cond, Bool·beq}
+use mathlib.Core.Bool.{Bool, not, _&&_, cond}
 use Prim.Native.Nat.{ℕ, zero, suc, _+_, _-_, _*_, _/_, _%_, _^_, _<_, _≤_}
-use native.Mathlib.Nat.{zero-mul, mul-zero, mul-one, one-mul, mul-pos, mul-assoc, mul-comm, mul-right-comm, add-zero, zero-lt-suc, le-trans, le-div-iff-mul-le, eq-of-mul-eq-mul-right, lt-irrefl, lt-of-lt-of-le, mul-lt-mul-of-pos-right, le-of-suc-le-suc, lt-of-not-le}
-use native.Mathlib.Omega.{arith}
+use native.Mathlib.Nat.{mul-one, mul-assoc, mul-comm, mul-right-comm, eq-of-mul-eq-mul-right, mul-lt-mul-of-pos-right}
 use lib.IntN.{ℤ, pos, negsuc}
-use lib.Dec.{T, leb, ltb, eqb, eqb→eq, leb→le, ltb→lt, lt→ltb, nltb→le}
-use lib.Pow.{pow-pos, pow-add, pow-lt}
-use lib.Ieee.{Float, nan, inf, fin, Format, binary64, prec, emax, low, up, down, size, nearest, odd, units, round, add, sum, mul, div, fits, toBits, ofBits, unlike, top, hid}
-use lib.Ieee.Bits.{ofBits-toBits, is-true}
-use lib.Ieee.Digits.{size-lt, size-reaches, odd-val, back}
-use lib.Ieee.Exact.{HasValue, round-exact, odd-sign}
-use lib.Ieee.Fits.{and-l, and-r, up-pos, down-pos, round-fits, round-is, core, kept-lt}
+use lib.Dec.{T, leb, ltb, eqb, leb→le, ltb→lt}
+use lib.Pow.{pow-pos, pow-add}
+use lib.Ieee.{Float, nan, inf, fin, Format, prec, emax, low, up, down, size, units, round, fits, toBits, ofBits, top, hid}
+use lib.Ieee.Bits.{ofBits-toBits}
+use lib.Ieee.Digits.{back}
+use lib.Ieee.Exact.{HasValue, round-exact}
+use lib.Ieee.Fits.{and-l, and-r, down-pos, round-fits}
 use Rattle.rounding.proofs.Units.{pow-le}
-use lib.Ieee.Nearest.{div-same, nearest-ge}
+use lib.Ieee.Nearest.{div-same}
 
 -- x / dx and y / dy are both a / c
 level : (x dx y dy a c : ℕ) → 0 < c → x * c ≡ a * dx → y * c ≡ a * dy → x * dy ≡ y * dx

@@ -1,20 +1,20 @@
 -- Sums to which a zero is added. A sum from +0 never becomes -0, so a zero of either sign added to it changes nothing. Assumes nothing.
 use mathlib.Core.Path.{_≡_, refl, sym, _∙_, ap, ap₂, subst}
-use mathlib.Core.Bool.{Bool, true, false, not, _&&_, _||_, cond, Bool·beq}
+use mathlib.Core.Bool.{Bool, true, false, not, cond}
 use mathlib.Core.Logic.{_⊎_, inl, inr}
 use Prim.Native.Nat.{ℕ, zero, suc, _+_, _-_, _*_, _/_, _%_, _^_, _<_, _≤_, compare}
-use native.Mathlib.Nat.{zero-mul, mul-zero, mul-one, one-mul, mul-pos, mul-assoc, mul-comm, mul-right-comm, add-zero, zero-lt-suc, le-trans, le-div-iff-mul-le, add-mul, mul-le-mul-right, lt-irrefl, lt-of-lt-of-le, sub-zero, mul-lt-mul-of-pos-right, lt-of-mul-lt-mul-right, mul-sub, suc-mul, le-mul-of-pos-right}
+use native.Mathlib.Nat.{zero-mul, mul-one, one-mul, mul-pos, mul-assoc, mul-comm, mul-right-comm, add-zero, zero-lt-suc, le-div-iff-mul-le, add-mul, mul-le-mul-right, lt-irrefl, lt-of-lt-of-le, sub-zero, mul-lt-mul-of-pos-right, lt-of-mul-lt-mul-right, mul-sub, suc-mul, le-mul-of-pos-right}
 use native.Mathlib.Omega.{arith}
-use lib.IntN.{ℤ, pos, negsuc}
-use lib.Dec.{T, leb, ltb, eqb, ltb→lt, nltb→le}
+use lib.IntN.{ℤ, pos}
+use lib.Dec.{T, ltb}
 use lib.Pow.{pow-pos}
 use lib.Ieee.{Float, nan, inf, fin, Format, binary64, prec, emax, low, up, down, size, nearest, odd, units, round, add, sum, mul, div, fits, unlike, le, lt, eq}
 use lib.Ieee.Digits.{size-lt, size-reaches}
 use lib.Ieee.Exact.{HasValue, round-exact, odd-sign}
-use lib.Ieee.Fits.{two, up-pos, down-pos, round-fits, round-is, core}
+use lib.Ieee.Fits.{two, up-pos, down-pos, round-fits, round-is}
 use lib.Ieee.Nearest.{nearest-ge}
 use lib.Ieee.Order.{round-mono}
-use borrow.Author.Tests.{lt-ltb, le-ltb, ltb-true, ltb-false}
+use borrow.Author.Tests.{lt-ltb, le-ltb, ltb-true}
 use Rattle.numbers.specs.Number.{finite, Plain}
 use Rattle.numbers.proofs.Leaves.{clash, zero-exponent}
 use Rattle.rounding.proofs.Unique.{value-unique, round-self}

@@ -1,26 +1,26 @@
 -- Sizes of a model within the limits; a sequence that was copied, and its gates by columns; what the verdicts say. Assumes nothing.
 use Prim.Native.Nat.{ℕ, _+_, _*_, _≤_, _<_}
-use mathlib.Core.Path.{_≡_, refl, sym, ap, subst, _∙_}
-use mathlib.Core.Bool.{Bool, true, false, cond, _||_}
+use mathlib.Core.Path.{_≡_, sym, ap, subst, _∙_}
+use mathlib.Core.Bool.{_||_}
 use mathlib.Core.List.{List, _++_}
 use native.Mathlib.Nat.{mul-le-mul}
 use borrow.Author.Tests.{eqb-true, ltb-false}
-use lib.Dec.{eqb, ltb}
+use lib.Dec.{ltb}
 use lib.ListN.{length, getD}
 use lib.Ieee.{Float}
 use Rattle.lists.proofs.Parts.{row-fits}
 use Rattle.booleans.proofs.Joined.{neither}
 use Rattle.refusal.specs.declared.Refusal.{Refusal}
-use Rattle.refusal.specs.declared.Refusal.the-variants.{Shape}
 use Rattle.refusal.specs.declared.Verdict.{Verdict}
 use Rattle.refusal.specs.declared.Verdict.the-variants.{Good, Refused}
 use Rattle.refusal.specs.Verdicts.{firstOf}
-use Rattle.refusal.proofs.Verdicts.{never-good, both-good}
+use Rattle.refusal.proofs.Verdicts.{both-good, passed, held}
+use Rattle.card_layout.specs.Limits.{limitsOf}
 use Rattle.model.specs.Checked.{testedOf}
 use Rattle.gate_set.specs.GateSet.{presentOf, columnsIn, probabilitiesBy, probabilitiesOf}
 use Rattle.gate_set.proofs.Columns.{same-probabilities}
 use Rattle.gate_set.proofs.Sequences.{present-below}
-use Rattle.sequences.specs.Sequences.{limitsOf, Sized, modelSize, countedOf, givenVerdict, sequenceVerdict, given}
+use Rattle.sequences.specs.Sequences.{limitsVerdict, Sized, modelSize, countedOf, givenVerdict, sequenceVerdict, given}
 
 pub products : (d e g : ℕ) → Sized d e g → (e * d ≤ 256) × (d * d ≤ 256) × (g * (d * d) ≤ 2048)
 products d e g s =
@@ -47,25 +47,17 @@ module _ (x y w : Verdict) (e : w ≡ x) where
 
 -- ---- what good verdicts say
 
-not-refused : (b : Bool) (r : Refusal) → Good ≡ cond b (Refused r) Good → b ≡ false
-not-refused true r e = absurd (never-good e)
-not-refused false r e = refl
-
-pub within : (d e g n : ℕ) → Good ≡ limitsOf d e g n → Sized d e g × (n ≤ 64)
-unfolding limitsOf
+pub within : (d e g n : ℕ) → Good ≡ limitsVerdict d e g n → Sized d e g × (n ≤ 64)
+unfolding limitsVerdict limitsOf
 within d e g n h =
-    let a = neither (ltb 16 d) (ltb 16 e || (ltb 8 g || ltb 64 n)) (not-refused _ _ h) in
+    let a = neither (ltb 16 d) (ltb 16 e || (ltb 8 g || ltb 64 n)) (passed _ _ _ h .0) in
     let b = neither (ltb 16 e) (ltb 8 g || ltb 64 n) (a .1) in
     let c = neither (ltb 8 g) (ltb 64 n) (b .1) in
     (record { dimension = ltb-false 16 d (a .0); effects = ltb-false 16 e (b .0); gates = ltb-false 8 g (c .0) }, ltb-false 64 n (c .1))
 
 pub counted : (wanted : ℕ) (m : List Float) → Good ≡ countedOf wanted m → length m ≡ wanted
 unfolding countedOf
-counted wanted m h = go (eqb (length m) wanted) refl h
-  where
-    go : (b : Bool) → eqb (length m) wanted ≡ b → Good ≡ cond b Good (Refused (Shape wanted (length m))) → length m ≡ wanted
-    go true q h = eqb-true (length m) wanted q
-    go false q h = absurd (never-good h)
+counted wanted m h = eqb-true (length m) wanted (held _ _ h)
 
 -- all that a good sequence has
 pub record Fitting (d e : ℕ) (names : List ℕ) (m : List Float) (sequence : List ℕ) : Type 0 where
@@ -77,7 +69,7 @@ pub record Fitting (d e : ℕ) (names : List ℕ) (m : List Float) (sequence : L
 pub fitting : (d e : ℕ) (names : List ℕ) (m : List Float) (sequence : List ℕ) → Good ≡ sequenceVerdict d e names m sequence → Fitting d e names m sequence
 unfolding sequenceVerdict givenVerdict
 fitting d e names m sequence h =
-    let a = both-good (limitsOf d e (length names) (length sequence)) _ h in
+    let a = both-good (limitsVerdict d e (length names) (length sequence)) _ h in
     let b = both-good (countedOf (modelSize d e (length names)) m) _ (a .1) in
     let c = both-good (testedOf (given d e names m)) (presentOf (length names) sequence) (b .1) in
     let w = within d e (length names) (length sequence) (a .0) in

@@ -1,5 +1,5 @@
--- A model given in slices, and a gate sequence over it: the tests of the library's entry `probabilities`, in their order. The model has a word for the name of
--- each gate, and its numbers in the card's order; a sequence is gate indices.
+-- The Rust's `GateSetModel::probabilities` over a model that is given in slices (document 01's library entry): what is tested before it, in order. The model has a
+-- word for the name of each gate, and its numbers in the card's order; a sequence is gate indices.
 use Prim.Native.Nat.{ℕ, _+_, _*_, _≤_}
 use mathlib.Core.Bool.{cond, _||_}
 use mathlib.Core.List.{List}
@@ -10,12 +10,15 @@ use Rattle.refusal.specs.declared.Refusal.the-variants.{Shape, InvalidCard}
 use Rattle.refusal.specs.declared.Verdict.{Verdict}
 use Rattle.refusal.specs.declared.Verdict.the-variants.{Good, Refused}
 use Rattle.refusal.specs.Verdicts.{firstOf}
+use Rattle.card_layout.specs.Limits.{limitsOf, longest}
 use Rattle.model.specs.Checked.{Parts, testedOf}
 use Rattle.gate_set.specs.GateSet.{stateIn, effectIn, gateIn, presentOf}
 
--- the card's limits, of the dimension, the effects, the gates and the sequence's length; 15 at place 0 beyond them
-unfoldable pub limitsOf : ℕ → ℕ → ℕ → ℕ → Verdict
-limitsOf d effects gates n = cond (ltb 16 d || (ltb 16 effects || (ltb 8 gates || ltb 64 n))) (Refused (InvalidCard 0)) Good
+-- 15 at place 0 beyond the card's limits, those of kind 7: of the dimension, the effects, the gates and the sequence's length
+unfoldable pub limitsVerdict : ℕ → ℕ → ℕ → ℕ → Verdict
+limitsVerdict d effects gates n =
+    let most = limitsOf 7 in
+    cond (ltb (most .dimension) d || (ltb (most .effects) effects || (ltb (most .gates) gates || ltb longest n))) (Refused (InvalidCard 0)) Good
 
 -- a model within them
 pub record Sized (d e g : ℕ) : Type 0 where
@@ -46,4 +49,4 @@ givenVerdict d effects names m sequence =
     (firstOf (testedOf (given d effects names m)) (presentOf (length names) sequence))
 
 unfoldable pub sequenceVerdict : ℕ → ℕ → List ℕ → List Float → List ℕ → Verdict
-sequenceVerdict d effects names m sequence = firstOf (limitsOf d effects (length names) (length sequence)) (givenVerdict d effects names m sequence)
+sequenceVerdict d effects names m sequence = firstOf (limitsVerdict d effects (length names) (length sequence)) (givenVerdict d effects names m sequence)

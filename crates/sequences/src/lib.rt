@@ -14,10 +14,10 @@ ghost use Rattle.numbers.specs.Slice.{allFinite};
 ghost use Rattle.refusal.specs.declared.Verdict.the-variants.{Good};
 ghost use Rattle.model.specs.Checked.{anyOf, badName, badGate, testedOf};
 ghost use Rattle.gate_set.specs.GateSet.{columnsIn, presentOf, probabilitiesOf};
-ghost use Rattle.sequences.specs.Sequences.{limitsOf, modelSize, countedOf, nameIn, given, givenVerdict, sequenceVerdict, Sized};
+ghost use Rattle.sequences.specs.Sequences.{limitsVerdict, modelSize, countedOf, nameIn, given, givenVerdict, sequenceVerdict, Sized};
 
 fn check_limits(d: usize, effects: usize, gates: usize, n: usize) -> Verdict
-    ensures { λ v. ⌜ v ≡ limitsOf d effects gates n ⌝ }
+    ensures { λ v. ⌜ v ≡ limitsVerdict d effects gates n ⌝ }
 {
     let more = either(less(8, gates), less(64, n));
     if either(less(16, d), either(less(16, effects), more)) {

@@ -1,37 +1,33 @@
 -- Every sheet is sound: a refusal writes nothing, and none is refusal 16. Assumes nothing.
 use Prim.Native.Nat.{ℕ, _*_, _^_}
-use mathlib.Core.Path.{_≡_, refl}
-use mathlib.Core.Bool.{false, not, cond}
+use mathlib.Core.Path.{refl}
+use mathlib.Core.Bool.{not, cond}
 use mathlib.Core.List.{List}
 use borrow.Author.Tests.{eqb-false}
-use lib.Dec.{eqb}
 use lib.Ieee.{Float, lt}
-use Rattle.lists.specs.Fold.{fold}
 use Rattle.lists.proofs.Folding.{fold-keeps}
 use Rattle.numbers.specs.Number.{oneF, _-ᶠ_, abs, positive}
 use Rattle.numbers.specs.Word.{wordAt}
 use Rattle.numbers.specs.Slice.{at, numberAt, numbersAt, allFinite}
-use Rattle.refusal.specs.declared.Refusal.{Refusal}
-use Rattle.refusal.specs.declared.Refusal.the-variants.{Shape, NonFinite, InvalidNormalization, InvalidTolerance, Operator, SingularGaugeTransform, SingularProcessDesign, EigensolverDidNotConverge, InvalidGstOptimization}
+use Rattle.refusal.specs.declared.Refusal.the-variants.{NonFinite, InvalidNormalization, InvalidTolerance, Operator, SingularGaugeTransform, SingularProcessDesign, EigensolverDidNotConverge}
 use Rattle.refusal.specs.declared.Verdict.{Verdict}
 use Rattle.refusal.specs.declared.Verdict.the-variants.{Good, Refused}
-use Rattle.refusal.specs.Values.{codeOf}
-use Rattle.refusal.specs.Verdicts.{firstOf, after}
-use Rattle.pauli.specs.Density.{densityOf, vetOf, admitted, testedOf, invertedOf}
+use Rattle.refusal.specs.Verdicts.{after}
+use Rattle.pauli.specs.Density.{densityOf, vetOf, admitted, testedOf}
 use Rattle.inversion.specs.Inversion.{invertible}
 use Rattle.transfer.specs.Vectors.{vectorOf, vettedOf}
 use Rattle.eigen.specs.Jacobi.{Spectrum, spectrum, unknown}
 use Rattle.density.specs.Projection.{spectralNumbers, spectralVerdict, admission, spectrumOf, projectedVerdict}
-use Rattle.transfer.specs.Process.{inputsOf, transferOf, solvedOf, screened, processOf}
+use Rattle.transfer.specs.Process.{inputsOf, transferOf, solvedOf, screened}
 use Rattle.eigen.specs.Jacobi.{Values, values, unknownValues}
 use Rattle.choi.specs.Choi.{choiOf, choiTested}
 use Rattle.positivity.specs.Positivity.{known, toleranceOf, choiValues, positivityVerdict}
 use Rattle.card_layout.specs.declared.Header.{Header}
-use Rattle.card_parts.specs.Model.{stateOf, transformOf}
+use Rattle.card_parts.specs.Model.{transformOf}
 use Rattle.model.proofs.Refusals.{lower-model}
-use Rattle.model.specs.Checked.{anyOf, badName, badGate, checkedOf}
 use Rattle.gauge.specs.Gauge.{thresholdOf, invertedOf as gaugeInverted, newModel, gaugedOf}
-use Rattle.outcome.proofs.Refusals.{Sound, Lower, lower-good, lower-refused, lower-either, lower-first, lower-finite, lower-numbers, shown-sound}
+use Rattle.refusal.proofs.Lower.{Lower, lower-good, lower-refused, lower-either, lower-first, lower-finite, lower-numbers}
+use Rattle.outcome.proofs.Refusals.{Sound, shown-sound}
 use Rattle.sheets.specs.Sheets.{vectorsOf, densitySheet, estimateOf, projectedSheet, processSheetOf, physicalOf, gaugeVerdict, gaugeSheet}
 
 -- a test's own refusal, or what follows a verdict

@@ -37,7 +37,7 @@ use Rattle.gauge.specs.Gauge.{newModel, gaugedOf, gaugedNumbers}
 use Rattle.gauge.proofs.Gauges.{good-model, model-length}
 use Rattle.outcome.specs.declared.Answer.{Answer}
 use Rattle.outcome.specs.declared.Answer.the-variants.{Density, Projected, Process, Physical, Model, Refused}
-use Rattle.outcome.specs.Outcome.{Outcome, refused, shown, Gives}
+use Rattle.outcome.specs.Outcome.{refused, shown, Gives}
 use Rattle.outcome.proofs.Outcomes.{stays, same-outcome, same-answer, not-shown, is-shown, emitted}
 use Rattle.sheets.specs.Sheets.{vectorsOf, densitySheet, estimateOf, projectionNumbers, projectedSheet, processSheetOf, processSheet, physicalOf, physicalSheet, gaugeVerdict, gaugeNumbers, gaugeSheet}
 

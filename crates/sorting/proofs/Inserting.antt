@@ -1,6 +1,6 @@
 -- Insertion into a slice, place by place, is insertion into a list. Assumes nothing.
 use mathlib.Core.Path.{_≡_, refl, sym, _∙_, ap}
-use mathlib.Core.Bool.{Bool, true, false, cond, _||_}
+use mathlib.Core.Bool.{Bool, true, false}
 use mathlib.Core.List.{List, [], _∷_, _++_, append-assoc}
 use Prim.Native.Nat.{ℕ, zero, suc, _+_, _<_, _≤_}
 use native.Mathlib.Nat.{add-zero}
@@ -11,7 +11,6 @@ use lib.Seq.{take-suc, drop-cons, drop-set-lt, take-suc-set, getD-drop, getD-tak
 use lib.Ieee.{Float}
 use Rattle.lists.specs.Fold.{fold}
 use Rattle.numbers.specs.Slice.{at}
-use Rattle.sorting.specs.declared.Hand.{Hand}
 use Rattle.sorting.specs.Sort.{before, insert, orderBy}
 use Rattle.sorting.specs.Steps.{Shift, shift, shifted, inserted}
 

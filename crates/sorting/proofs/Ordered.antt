@@ -1,9 +1,9 @@
 -- The order that insertion gives is a stable sort, rising or falling. Assumes nothing.
 use mathlib.Core.Path.{_≡_, refl, sym, _∙_, ap}
-use mathlib.Core.Bool.{Bool, true, false, not, cond, _&&_, _||_}
+use mathlib.Core.Bool.{Bool, true, false, not, cond, _&&_}
 use mathlib.Core.Logic.{_⊎_, inl, inr, ⊎-elim}
 use mathlib.Core.List.{List, [], _∷_}
-use Prim.Native.Nat.{ℕ, zero, suc, _+_, _<_, _≤_}
+use Prim.Native.Nat.{ℕ, zero, suc, _+_, _<_}
 use native.Mathlib.Omega.{arith}
 use native.Mathlib.Nat.{not-suc-le-zero, le-of-suc-le-suc, eq-or-lt-of-le}
 use lib.Dec.{eqb, ltb}
@@ -15,7 +15,7 @@ use Rattle.numbers.specs.Number.{precedes, negative}
 use Rattle.numbers.specs.Slice.{at}
 use Rattle.numbers.proofs.Order.{not-above}
 use Rattle.sorting.specs.Sort.{before, insert, orderBy}
-use Rattle.sorting.specs.Sorted.{count, Next, InOrder, Sorts}
+use Rattle.sorting.specs.Sorted.{count, InOrder, Sorts}
 
 -- ---- how often an index occurs
 

@@ -1,6 +1,6 @@
 -- Insertion into a slice: the number in hand is put down before the first that it comes before, and from there on each takes the place of the next.
 use mathlib.Core.Bool.{Bool, true, false, cond, _||_}
-use mathlib.Core.List.{List, _∷_}
+use mathlib.Core.List.{List}
 use Prim.Native.Nat.{ℕ}
 use lib.ListN.{getD, set}
 use lib.Ieee.{Float}

@@ -10,6 +10,10 @@ use Rattle.lists.proofs.Choices.{yes, no}
 use Rattle.lists.proofs.Filling.{length-build}
 use Rattle.lists.proofs.Parts.{front-is, front-keeps}
 use Rattle.numbers.proofs.Leaves.{clash}
+use Rattle.numbers.specs.Number.{_*ᶠ_}
+use Rattle.numbers.specs.Slice.{at}
+use Rattle.root.specs.Root.{sqrt}
+use Rattle.matrix.specs.Product.{sumOf}
 use Rattle.refusal.specs.declared.Refusal.{Refusal}
 use Rattle.refusal.specs.declared.Verdict.{Verdict}
 use Rattle.refusal.specs.declared.Verdict.the-variants.{Good, Refused}
@@ -19,11 +23,13 @@ use Rattle.descent.specs.declared.Search.the-variants.{Searching, Found, Lost}
 use Rattle.descent.specs.Fit.{Job, Point, State, going, stopped, slopes, unusable, size, backtracks, gradient, norm, flat, trial, searchTo, small, searched, stepBy, step}
 use Rattle.descent.proofs.Laws.{split}
 use Rattle.evaluation.specs.Job.{slopesOf}
+use Rattle.evaluation.proofs.Slopes.{norm-by}
 use Rattle.search.specs.Found.{FoundAt}
 use Rattle.steps.specs.declared.Status.{Status}
 use Rattle.steps.specs.declared.Status.the-variants.{Going, Stopped, Turned}
+use Rattle.steps.specs.declared.Slope.the-variants.{Norm}
 use Rattle.steps.specs.declared.Running.{Running}
-use Rattle.steps.specs.Running.{pointOf, stateBy, stateOf, Steep, Normed, Underway, Follows, restOf, movedOf}
+use Rattle.steps.specs.Running.{pointOf, stateBy, stateOf, Sloped, Normed, Underway, Follows, restOf, movedOf}
 
 -- a trial that was found is one of the B, and y holds its numbers
 pub found-of : (J : Job) (xs g y : List Float) (a : Search) {k : ℕ} {v : Float} → FoundAt J xs g y a → a ≡ Found k v → (y ≡ trial J xs g k) × (k < backtracks J)
@@ -37,11 +43,15 @@ unfolding trial
 length-trial J xs g k = length-build (size J) _
 
 -- the gradient's verdict is v, and its numbers came back as y, at the front of a room that held l
-module _ (J : Job) (xs : List Float) (o : Float) (y l : List Float) (v : Verdict) (e : slopesOf v y ≡ gradient J xs o) where
-  pub sloped : v ≡ Good → length y ≡ size J → gradient J xs o ≡ slopes (take (size J) (y ++ drop (size J) l))
-  sloped h n = sym e ∙ ap (λ (v : Verdict). slopesOf v y) h ∙ ap slopes (sym (front-is (size J) y l y refl n))
+module _ (J : Job) (p : Point) (y l : List Float) (v : Verdict) (e : slopesOf v y ≡ gradient J (p .coordinates) (p .objective)) where
+  -- they are y, of norm z
+  pub sloped : (z : Float) → v ≡ Good → length y ≡ size J → z ≡ sqrt (sumOf (length (take (size J) (y ++ drop (size J) l))) (λ i. at (take (size J) (y ++ drop (size J) l)) i *ᶠ at (take (size J) (y ++ drop (size J) l)) i))
+      → Sloped J p (take (size J) (y ++ drop (size J) l)) (Norm z)
+  sloped z h n w =
+      let f = front-is (size J) y l y refl n in
+      (sym e ∙ ap (λ (v : Verdict). slopesOf v y) h ∙ ap slopes (sym f), norm-by J _ z (ap length f ∙ n) w)
 
-  pub slopeless : {x : Refusal} → v ≡ Refused x → gradient J xs o ≡ unusable x
+  pub slopeless : {x : Refusal} → v ≡ Refused x → gradient J (p .coordinates) (p .objective) ≡ unusable x
   slopeless h = sym e ∙ ap (λ (v : Verdict). slopesOf v y) h
 
 module _ (J : Job) (r q : Running) (u : Underway r) where
@@ -58,20 +68,17 @@ module _ (J : Job) (r q : Running) (u : Underway r) where
   unsloped z x f e = rest 0 z (Turned x) (omega arith) e (sym (ap (stepBy J (pointOf (size J) r)) f)) tt
 
   -- the gradient is g, of norm z
-  module _ (g : List Float) (z : Float) (f : gradient J (take (size J) (r .coordinates)) (r .objective) ≡ slopes g) (m : z ≡ norm J g) (few : size J ≤ 64) (low : backtracks J ≤ 255) where
+  module _ (g : List Float) (z : Float) (f : Sloped J (pointOf (size J) r) g (Norm z)) (few : size J ≤ 64) (low : backtracks J ≤ 255) where
     by-slopes : step J (pointOf (size J) r) ≡ stepBy J (pointOf (size J) r) (slopes g)
     unfolding step
-    by-slopes = ap (stepBy J (pointOf (size J) r)) f
+    by-slopes = ap (stepBy J (pointOf (size J) r)) (f .0)
 
     test : {b : Bool} → le z (J .config .«gradient_tolerance») ≡ b → flat J g ≡ b
-    test h = ap (λ (z : Float). le z (J .config .«gradient_tolerance»)) (sym m) ∙ h
-
-    steep : (p : Point) → p .coordinates ≡ take (size J) (r .coordinates) → p .objective ≡ r .objective → Steep J p z
-    steep p a b = record { slope = g; found = rw (a, b) f; normed = sym m }
+    test h = ap (λ (z : Float). le z (J .config .«gradient_tolerance»)) (sym (f .1)) ∙ h
 
     -- it passes its test
     pub level : le z (J .config .«gradient_tolerance») ≡ true → q ≡ restOf r (2 * size J) z (Stopped GradientTolerance) → Follows J (size J) r q
-    level h e = rest (2 * size J) z (Stopped GradientTolerance) (omega arith) e (yes _ (test h) ∙ sym by-slopes) (λ _. steep _ refl refl)
+    level h e = rest (2 * size J) z (Stopped GradientTolerance) (omega arith) e (yes _ (test h) ∙ sym by-slopes) (λ _. record { slope = g; sloped = f })
 
     -- it fails its test, and the search ends with a
     module _ (h : le z (J .config .«gradient_tolerance») ≡ false) (a : Search) (i : a ≡ searchTo J (take (size J) (r .coordinates)) g (r .objective) (backtracks J)) where
@@ -79,7 +86,7 @@ module _ (J : Job) (r q : Running) (u : Underway r) where
       past s j e = no _ (test h) (e ∙ ap (searched J (pointOf (size J) r) g) (sym j ∙ i)) ∙ sym by-slopes
 
       pub stalled : a ≡ Searching → q ≡ restOf r (2 * size J + backtracks J) z (Stopped LineSearchStalled) → Follows J (size J) r q
-      stalled j e = rest (2 * size J + backtracks J) z (Stopped LineSearchStalled) (omega arith) e (past _ j refl) (λ _. steep _ refl refl)
+      stalled j e = rest (2 * size J + backtracks J) z (Stopped LineSearchStalled) (omega arith) e (past _ j refl) (λ _. record { slope = g; sloped = f })
 
       pub lost : {x : Refusal} → a ≡ Lost x → q ≡ restOf r 0 z (Turned x) → Follows J (size J) r q
       lost {x} j e = rest 0 z (Turned x) (omega arith) e (past _ j refl) tt

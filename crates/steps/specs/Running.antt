@@ -10,9 +10,11 @@ use Rattle.numbers.specs.Number.{_-ᶠ_}
 use Rattle.descent.specs.declared.GstOptimizerConfig.{GstOptimizerConfig}
 use Rattle.descent.specs.declared.GstTermination.{GstTermination}
 use Rattle.descent.specs.declared.GstTermination.the-variants.{GradientTolerance, ObjectiveTolerance, MaximumIterations, LineSearchStalled}
-use Rattle.descent.specs.Fit.{Job, slopes, Point, State, going, stopped, refused, iterations, gradient, norm, step, next}
+use Rattle.descent.specs.Fit.{Job, slopes, unusable, Point, State, going, stopped, refused, iterations, gradient, norm, step, next}
 use Rattle.steps.specs.declared.Status.{Status}
 use Rattle.steps.specs.declared.Status.the-variants.{Going, Stopped, Turned}
+use Rattle.steps.specs.declared.Slope.{Slope}
+use Rattle.steps.specs.declared.Slope.the-variants.{Norm, Unusable}
 use Rattle.steps.specs.declared.Running.{Running}
 
 -- the point of a running fit with n coordinates, and its state
@@ -27,11 +29,15 @@ stateBy (Turned x) p = refused x
 abbrev pub stateOf : ℕ → Running → State
 stateOf n r = stateBy (r .status) (pointOf n r)
 
+-- what was found of the gradient at a point: its numbers g with their norm, or that it is unusable
+abbrev pub Sloped : Job → Point → List Float → Slope → Type 0
+Sloped J p g (Norm z) = (gradient J (p .coordinates) (p .objective) ≡ slopes g) × (z ≡ norm J g)
+Sloped J p g (Unusable x) = gradient J (p .coordinates) (p .objective) ≡ unusable x
+
 -- z is the norm of the gradient at the point
 pub record Steep (J : Job) (p : Point) (z : Float) : Type 0 where
   pub slope : List Float
-  pub found : gradient J (p .coordinates) (p .objective) ≡ slopes slope
-  pub normed : norm J slope ≡ z
+  pub sloped : Sloped J p slope (Norm z)
 
 -- the reasons for which a fit stops at a gradient that it has worked out there
 abbrev pub keepsNorm : GstTermination → Bool

@@ -11,10 +11,10 @@ use search::search;
 ghost use mathlib.Core.Path.{_≡_};
 ghost use Prim.Native.Nat.{_≤_, _<_};
 ghost use lib.ListN.{length, take};
-ghost use Rattle.descent.specs.Fit as spec;
 ghost use Rattle.evaluation.specs.Job.{jobBy, Lent};
 ghost use Rattle.steps.specs.declared.Status.the-variants.{Going};
-ghost use Rattle.steps.specs.Running.{Underway, Follows, Ran, goingOn, restOf, movedOf};
+ghost use Rattle.steps.specs.declared.Slope.the-variants.{Norm};
+ghost use Rattle.steps.specs.Running.{pointOf, Sloped, Underway, Follows, Ran, goingOn, restOf, movedOf};
 
 pub enum Status {
     Going,
@@ -30,6 +30,12 @@ pub struct Running {
     pub steps: u64,
     pub evaluations: u64,
     pub status: Status,
+}
+
+// What a point's gradient gives: its norm, or why it is unusable.
+pub enum Slope {
+    Norm(f64),
+    Unusable(Refusal),
 }
 
 // Room for coordinates; the `ensures` gives the length, which lending a part needs.
@@ -86,7 +92,44 @@ fn moved(c: GstOptimizerConfig, r: Running, t: [f64; 64], v: f64, n: u64) -> Run
     }
 }
 
-// The step from r along its gradient g.
+// The gradient at r, at the front of g, and its norm.
+pub fn slope_at(
+    card: &[u8],
+    h: Header,
+    places: &[usize],
+    c: GstOptimizerConfig,
+    anchor: &[f64],
+    r: Running,
+    g: &mut [f64],
+    model: &mut [f64],
+    columns: &mut [f64],
+) -> Slope
+    requires { ⌜ Lent (now card) h (now places) (now anchor) (now model) (now columns) × Underway r × (length (now g) ≡ 64) ⌝ }
+    ensures { λ q. ⌜ Sloped (jobBy (now (card .entry)) h (now (places .entry)) c) (pointOf (length (now (places .entry))) r) (take (length (now (places .entry))) (now (g .exit))) q × (length (now (g .exit)) ≡ length (now (g .entry))) × (length (now (model .exit)) ≡ length (now (model .entry))) × (length (now (columns .exit)) ≡ length (now (columns .entry))) ⌝ }
+{
+    let p = places.len();
+    let x = r.coordinates;
+    let mut t = room();
+    let found = gradient(
+        card,
+        h,
+        places,
+        c,
+        anchor,
+        &x[..p],
+        r.objective,
+        &mut g[..p],
+        &mut t[..p],
+        model,
+        columns,
+    );
+    match found {
+        Verdict::Good => Slope::Norm(norm(&g[..p])),
+        Verdict::Refused(x) => Slope::Unusable(x),
+    }
+}
+
+// The step from r along its gradient g, of norm z.
 fn descend(
     card: &[u8],
     h: Header,
@@ -95,15 +138,15 @@ fn descend(
     anchor: &[f64],
     r: Running,
     g: [f64; 64],
+    z: f64,
     model: &mut [f64],
     columns: &mut [f64],
 ) -> Running
     requires { ⌜ Lent (now card) h (now places) (now anchor) (now model) (now columns) × (c .«max_backtracks» ≤ 255) × Underway r × (length g ≡ 64)
-        × (spec.gradient (jobBy (now card) h (now places) c) (take (length (now places)) (r .coordinates)) (r .objective) ≡ spec.slopes (take (length (now places)) g)) ⌝ }
+        × Sloped (jobBy (now card) h (now places) c) (pointOf (length (now places)) r) (take (length (now places)) g) (Norm z) ⌝ }
     ensures { λ q. ⌜ Follows (jobBy (now (card .entry)) h (now (places .entry)) c) (length (now (places .entry))) r q ⌝ }
 {
     let p = places.len();
-    let z = norm(&g[..p]);
     let n = 2 * (p as u64);
     if z <= c.gradient_tolerance {
         return with_status(r, n, z, Status::Stopped(GstTermination::GradientTolerance));
@@ -146,27 +189,11 @@ fn step(
     requires { ⌜ Lent (now card) h (now places) (now anchor) (now model) (now columns) × (c .«max_backtracks» ≤ 255) × Underway r ⌝ }
     ensures { λ q. ⌜ Follows (jobBy (now (card .entry)) h (now (places .entry)) c) (length (now (places .entry))) r q ⌝ }
 {
-    let p = places.len();
-    let x = r.coordinates;
-    let o = r.objective;
     let mut g = room();
-    let mut t = room();
-    let found = gradient(
-        card,
-        h,
-        places,
-        c,
-        anchor,
-        &x[..p],
-        o,
-        &mut g[..p],
-        &mut t[..p],
-        model,
-        columns,
-    );
+    let found = slope_at(card, h, places, c, anchor, r, &mut g, model, columns);
     match found {
-        Verdict::Good => descend(card, h, places, c, anchor, r, g, model, columns),
-        Verdict::Refused(x) => with_status(r, 0, 0.0, Status::Turned(x)),
+        Slope::Norm(z) => descend(card, h, places, c, anchor, r, g, z, model, columns),
+        Slope::Unusable(x) => with_status(r, 0, 0.0, Status::Turned(x)),
     }
 }
 

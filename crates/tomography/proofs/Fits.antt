@@ -1,5 +1,5 @@
 -- What the entry point's promise says of fits. Assumes nothing.
-use Prim.Native.Nat.{ℕ, _≤_, _<_}
+use Prim.Native.Nat.{ℕ, _<_}
 use mathlib.Core.Path.{_≡_, refl, sym, ap, subst, _∙_}
 use mathlib.Core.Bool.{Bool, true, false, cond}
 use mathlib.Core.List.{List}
@@ -13,14 +13,11 @@ use Rattle.refusal.specs.declared.Refusal.the-variants.{ShortBuffer}
 use Rattle.card_layout.specs.declared.Header.{Header}
 use Rattle.card.specs.declared.Reading.the-variants.{Accepted}
 use Rattle.card.specs.Reading.{readOf}
-use Rattle.descent.specs.Claim.{distinct}
-use Rattle.parameters.specs.Parameters.{placesOf}
 use Rattle.outcome.specs.declared.Answer.{Answer}
 use Rattle.outcome.specs.declared.Answer.the-variants.{Fit}
 use Rattle.outcome.specs.Outcome.{Outcome, refused, Gives, roomy, inRoom, Call}
 use Rattle.outcome.proofs.Refusals.{isRefused}
 use Rattle.fit_sheets.specs.Sheets.{fitSheet}
-use Rattle.fit_sheets.specs.Buyer.{Buyer}
 use Rattle.fit_sheets.proofs.Buyer.{buyer}
 use Rattle.tomography.specs.Sheet.{modelSheet, kindSheet, readSheet, sheetOf, Sheet}
 

@@ -1,4 +1,4 @@
--- What the promise says of refusals: the sheet of a card is sound, so that one writes no word of the result, and 16 is given in its case and in no other.
+-- What the promise says of refusals: the sheet of a card is sound, so that one writes no word of the result, and 16 is given only where a slice is too short.
 -- Assumes nothing.
 use Prim.Native.Nat.{ℕ, _*_, _^_}
 use mathlib.Core.Path.{_≡_, refl}
@@ -25,7 +25,7 @@ use Rattle.outcome.specs.Outcome.{roomy}
 use Rattle.outcome.proofs.Refusals as outcome
 use Rattle.outcome.proofs.Refusals.{Sound, other, either}
 use Rattle.gst_sheets.proofs.Refusals.{diagnostics-sound}
-use Rattle.fit_sheets.proofs.Refusals.{fit-sound}
+use Rattle.fit_sheets.proofs.Refusals.{fit-sheet-sound}
 use Rattle.sheets.proofs.Refusals.{density-sound, projected-sound, process-sound, physical-sound, gauge-sound}
 use Rattle.tomography.specs.Sheet.{modelSheet, kindSheet, readSheet, sheetOf, Sheet}
 
@@ -47,7 +47,7 @@ reads s = go (faultOf s) (qubitsBreak (header s)) (eqb (wantedWords (header s)) 
 
 models : (s : List ℕ) (h : Header) → Sound (modelSheet s h)
 unfolding modelSheet
-models s h = either (eqb (h .kind) 5) (fit-sound s h) (either (eqb (h .kind) 6) (gauge-sound s h) (diagnostics-sound s h))
+models s h = either (eqb (h .kind) 5) (fit-sheet-sound s h) (either (eqb (h .kind) 6) (gauge-sound s h) (diagnostics-sound s h))
 
 kinds : (s : List ℕ) (h : Header) → Sound (kindSheet s h)
 unfolding kindSheet
@@ -73,6 +73,6 @@ module _ (card : List ℕ) {result₀ result₁ : List ℕ} {work₀ work₁ : L
   pub refusal-writes-nothing : {r : Refusal} → Sheet card result₀ result₁ work₀ work₁ (Refused r) → result₁ ≡ result₀
   refusal-writes-nothing s = outcome.refusal-writes-nothing (sheet-sound card) (s .call)
 
-  -- 16 in its case and in no other
+  -- 16 only where a slice is too short
   pub short-case : Sheet card result₀ result₁ work₀ work₁ (Refused ShortBuffer) → roomy result₀ work₀ ≡ false
   short-case s = outcome.short-case (sheet-sound card) (s .call)

@@ -1,4 +1,4 @@
--- The sheet of a card, by its kind, and what a call of the entry point promises.
+-- The sheet of a card, by its kind (document 01's table), and what a call of the entry point promises.
 use Prim.Native.Nat.{ℕ}
 use mathlib.Core.Path.{_≡_}
 use mathlib.Core.Bool.{Bool, true, cond}

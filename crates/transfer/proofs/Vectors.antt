@@ -1,22 +1,18 @@
 -- The loops over the vectors. Assumes nothing.
-use Prim.Native.Nat.{ℕ, _+_, _*_, _/_, _%_, _≤_, _<_}
-use mathlib.Core.Path.{_≡_, sym, ap, ap₂, _∙_}
+use Prim.Native.Nat.{ℕ, _+_, _*_, _≤_, _<_}
+use mathlib.Core.Path.{_≡_, ap, _∙_}
 use mathlib.Core.List.{List}
 use native.Mathlib.Nat.{mul-assoc, mul-le-mul}
 use native.Mathlib.Omega.{arith}
-use lib.ListN.{length}
 use lib.Ieee.{Float}
-use Rattle.lists.specs.Build.{build}
 use Rattle.lists.specs.Fold.{fold}
-use Rattle.lists.proofs.Filling.{build-same, length-build}
 use Rattle.lists.proofs.Folding.{fold-none, fold-more, fold-end}
-use Rattle.lists.proofs.Parts.{row-fits, row-of, column-of}
-use Rattle.numbers.specs.Slice.{at}
+use Rattle.lists.proofs.Parts.{row-fits}
 use Rattle.refusal.specs.declared.Verdict.{Verdict}
 use Rattle.refusal.specs.declared.Verdict.the-variants.{Good}
 use Rattle.refusal.specs.Verdicts.{firstOf}
 use Rattle.pauli.specs.Density.{vetOf}
-use Rattle.transfer.specs.Vectors.{vectorOf, vettedOf, columnsOf}
+use Rattle.transfer.specs.Vectors.{vectorOf, vettedOf}
 
 -- vector k of 2 p lies within 2 p p numbers
 pub vector-fits : (k p : ℕ) → k < 2 * p → k * p + p ≤ 2 * (p * p)
@@ -39,15 +35,3 @@ module _ (t : Float) (v : List Float) (p : ℕ) where
   pub found-all : (k : ℕ) (found : Verdict) → k ≡ 2 * p → Found k found → found ≡ vettedOf t v p
   unfolding vettedOf
   found-all k found e a = fold-end _ k (2 * p) Good found e a
-
--- row c of the matrix of columns
-module _ (v : List Float) (from p : ℕ) where
-  abbrev pub columnAt : ℕ → Float
-  columnAt z = at v (from + (z % p * p + z / p))
-
-  pub column-row : (c : ℕ) (ys : List Float) → ys ≡ build p (λ k. at v (from + (k * p + c))) → ys ≡ build p (λ k. columnAt (c * p + k))
-  column-row c ys e = e ∙ build-same p _ _ (λ k h. ap₂ (λ (x y : ℕ). at v (from + (x * p + y))) (sym (column-of c k p h)) (sym (row-of c k p h)))
-
-pub length-columns : (v : List Float) (from p : ℕ) → length (columnsOf v from p) ≡ p * p
-unfolding columnsOf
-length-columns v from p = length-build (p * p) _

@@ -3,6 +3,7 @@
 use Prim.Native.Nat.{ℕ, _*_}
 use mathlib.Core.Bool.{cond, not}
 use mathlib.Core.List.{List, []}
+use lib.ListN.{drop}
 use lib.Ieee.{Float}
 use Rattle.numbers.specs.Number.{positive}
 use Rattle.refusal.specs.declared.Refusal.{Refusal}
@@ -10,16 +11,16 @@ use Rattle.refusal.specs.declared.Refusal.the-variants.{NonFinite, InvalidToler
 use Rattle.refusal.specs.declared.Verdict.{Verdict}
 use Rattle.refusal.specs.declared.Verdict.the-variants.{Refused}
 use Rattle.refusal.specs.Verdicts.{after, finiteOr}
-use Rattle.matrix.specs.Product.{matMulOf}
+use Rattle.matrix.specs.Product.{matMulOf, transposedOf}
 use Rattle.inversion.specs.Inversion.{invertible, inverseOf}
-use Rattle.transfer.specs.Vectors.{vettedOf, columnsOf}
+use Rattle.transfer.specs.Vectors.{vettedOf}
 
 -- the inputs and the outputs as columns
 abbrev pub inputsOf : List Float → ℕ → List Float
-inputsOf v p = columnsOf v 0 p
+inputsOf v p = transposedOf p v
 
 abbrev pub outputsOf : List Float → ℕ → List Float
-outputsOf v p = columnsOf v (p * p) p
+outputsOf v p = transposedOf p (drop (p * p) v)
 
 -- outputs · inputs⁻¹, with the tolerance as the pivots' threshold
 unfoldable pub transferOf : Float → List Float → ℕ → List Float

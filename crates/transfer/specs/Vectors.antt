@@ -1,11 +1,9 @@
 -- The probe vectors of a process: p input vectors of p expectations, one after the other, then p output vectors.
-use Prim.Native.Nat.{ℕ, _+_, _*_, _/_, _%_}
+use Prim.Native.Nat.{ℕ, _*_}
 use mathlib.Core.List.{List}
 use lib.Ieee.{Float}
-use Rattle.lists.specs.Build.{build}
 use Rattle.lists.specs.Fold.{fold}
 use Rattle.lists.specs.Part.{part}
-use Rattle.numbers.specs.Slice.{at}
 use Rattle.refusal.specs.declared.Verdict.{Verdict}
 use Rattle.refusal.specs.declared.Verdict.the-variants.{Good}
 use Rattle.refusal.specs.Verdicts.{firstOf}
@@ -18,7 +16,3 @@ vectorOf v p k = part (k * p) p v
 -- vector by vector: the refusal of the first that is not good
 unfoldable pub vettedOf : Float → List Float → ℕ → Verdict
 vettedOf tolerance v p = fold (2 * p) (λ k found. firstOf found (vetOf tolerance (vectorOf v p k))) Good
-
--- p vectors from number `from` on as the columns of a matrix, by rows: entry (component, probe) is that component of that vector
-unfoldable pub columnsOf : List Float → ℕ → ℕ → List Float
-columnsOf v from p = build (p * p) (λ z. at v (from + (z % p * p + z / p)))

@@ -4,16 +4,15 @@ use refusal::Verdict;
 use sizes::square;
 ghost use mathlib.Core.Path.{_≡_};
 ghost use mathlib.Core.List.{_++_};
-ghost use Prim.Native.Nat.{ℕ, _+_, _*_, _≤_, _<_};
+ghost use Prim.Native.Nat.{_*_, _≤_, _<_};
 ghost use lib.ListN.{length, drop};
-ghost use Rattle.lists.specs.Build.{build, over};
-ghost use Rattle.numbers.specs.Slice.{at};
+ghost use Rattle.lists.specs.Build.{over};
 ghost use Rattle.pauli.specs.Density.{vetOf};
 ghost use Rattle.matrix.specs.Product.{matMulOf};
 ghost use Rattle.inversion.specs.Inversion.{invertible, inverseOf};
 ghost use Rattle.transfer.specs.Process.{inputsOf, outputsOf, solvedOf, solvedNumbers, processOf, processNumbers};
 ghost use Rattle.transfer.specs.Apply.{appliedOf, appliedNumbers};
-ghost use Rattle.transfer.specs.Vectors.{vectorOf, vettedOf, columnsOf};
+ghost use Rattle.transfer.specs.Vectors.{vectorOf, vettedOf};
 
 fn vet_vector(vectors: &[f64], tolerance: f64, p: usize, k: usize) -> Verdict
     requires { ⌜ (1 ≤ p) × (p ≤ 16) × (k < 2 * p) × (2 * (p * p) ≤ length (now vectors)) ⌝ }
@@ -49,40 +48,6 @@ fn vet_all(vectors: &[f64], tolerance: f64, p: usize) -> Verdict
     vet_each(vectors, tolerance, p)
 }
 
-// Component c of each vector.
-fn column(vectors: &[f64], from: usize, c: usize, p: usize, row: &mut [f64])
-    requires { ⌜ (c < p) × (p ≤ 16) × (from + p * p ≤ length (now vectors)) × (length (now row) ≡ p) ⌝ }
-    ensures { λ _. ⌜ now (row .exit) ≡ build p (λ k. at (now (vectors .entry)) (from + (k * p + c))) ⌝ }
-{
-    for k in 0..p {
-        row[k] = vectors[from + (k * p + c)];
-    }
-}
-
-// The p vectors from number `from` on as columns.
-fn columns_of(vectors: &[f64], from: usize, p: usize, out: &mut [f64])
-    requires { ⌜ (p ≤ 16) × (from + p * p ≤ length (now vectors)) × (p * p ≤ length (now out)) ⌝ }
-    ensures { λ _. ⌜ now (out .exit) ≡ columnsOf (now (vectors .entry)) from p ++ drop (p * p) (now (out .entry)) ⌝ }
-{
-    for c in 0..p {
-        let start = c * p;
-        let end = start + p;
-        column(vectors, from, c, p, &mut out[start..end]);
-    }
-}
-
-// The same; the size of two qubits, 16, is passed on as a constant, for the compiler.
-fn columns(vectors: &[f64], from: usize, p: usize, out: &mut [f64])
-    requires { ⌜ (p ≤ 16) × (from + p * p ≤ length (now vectors)) × (p * p ≤ length (now out)) ⌝ }
-    ensures { λ _. ⌜ now (out .exit) ≡ columnsOf (now (vectors .entry)) from p ++ drop (p * p) (now (out .entry)) ⌝ }
-{
-    if p == 16 {
-        columns_of(vectors, from, 16, out);
-        return;
-    }
-    columns_of(vectors, from, p, out);
-}
-
 // Room for a matrix of 16 by 16; the `ensures` gives the length, which lending a part needs.
 fn matrix_room() -> [f64; 256]
     ensures { λ r. ⌜ 256 ≡ length r ⌝ }
@@ -97,7 +62,7 @@ fn invert_inputs(vectors: &[f64], tolerance: f64, p: usize, inverse: &mut [f64])
 {
     let m = square(p);
     let mut inputs = matrix_room();
-    columns(vectors, 0, p, &mut inputs);
+    matrix::transpose(vectors, p, &mut inputs);
     inversion::invert(&inputs[..m], p, tolerance, inverse)
 }
 
@@ -108,7 +73,7 @@ fn multiply_outputs(vectors: &[f64], p: usize, inverse: &[f64], out: &mut [f64])
 {
     let m = square(p);
     let mut outputs = matrix_room();
-    columns(vectors, m, p, &mut outputs);
+    matrix::transpose(&vectors[m..], p, &mut outputs);
     matrix::mat_mul(&outputs[..m], inverse, p, out);
 }
 

@@ -1,5 +1,5 @@
 -- The steps of a rotation, put together: row by row, then rows from columns, is the rotation entry by entry. Assumes nothing.
-use mathlib.Core.Path.{_≡_, refl, sym, _∙_, ap}
+use mathlib.Core.Path.{_≡_, refl, _∙_}
 use mathlib.Core.Bool.{Bool, true, false, cond, _&&_}
 use mathlib.Core.List.{List}
 use Prim.Native.Nat.{ℕ, zero, suc, _+_, _*_, _<_, _≤_}
@@ -11,7 +11,7 @@ use Rattle.lists.specs.Fold.{fold}
 use Rattle.numbers.specs.Number.{zeroF}
 use Rattle.complex.specs.declared.Complex.{Complex}
 use Rattle.complex.specs.Arithmetic.{conjugate}
-use Rattle.entries.specs.Entries.{entryAt, matrix}
+use Rattle.entries.specs.Entries.{entryAt}
 use Rattle.entries.proofs.Laying.{below-next}
 use Rattle.entries.proofs.Matrices.{at-set, at-matrix, is-matrix, length-matrix}
 use Rattle.magnitudes.proofs.Keeping.{SameOutside}

@@ -13,6 +13,7 @@ use Rattle.card_layout.specs.Layout.{times, modelRoles, recordRoles, afterWord0
 use Rattle.card_layout.specs.Limits.{unknown, limitsOf}
 use Rattle.card_layout.specs.Rules.{past, noMatrix, word0Breaks, qubitsBreak, sequenceBreaks, indicesBreak, coordinateBreaks}
 use Rattle.card_places.specs.Places.{modelAt}
+use Rattle.card_examples.specs.Rows.{card}
 use Rattle.card.specs.Reading.{header, examined, wordAtFault, sizeAtFault, atFault, lowest, faultOf, lengthRead, readOf}
 use Rattle.pauli.specs.Exact.{product, pauliMatrices, stringEntry}
 use Rattle.pauli.specs.Density.{pinned, weight, densityPart, densityOf, vetOf, admitted, testedOf}
@@ -52,9 +53,8 @@ use Rattle.fit_sheets.specs.Sheets.{fitWords, requestSheet, fitSheet}
 use Rattle.tomography.specs.Sheet.{modelSheet, kindSheet, sheetOf}
 use Rattle.refusal.specs.declared.Refusal.the-variants.{InvalidNormalization, Operator, SingularGaugeTransform, EigensolverDidNotConverge}
 use Rattle.refusal.specs.Verdicts.{finiteOr, checkedNumbers}
-use Rattle.outcome.specs.declared.Answer.the-variants.{Density, Projected, Physical, Fit, Model, Diagnostics, Refused}
+use Rattle.outcome.specs.declared.Answer.the-variants.{Density, Projected, Physical, Fit, Model, Diagnostics}
 use Rattle.outcome.specs.Outcome.{Outcome, refused}
-use Rattle.worked_examples.specs.Cards.{card}
 
 pub record Row : Type 0 where
   pub words : List ℕ
@@ -63,7 +63,7 @@ pub record Row : Type 0 where
 -- every row's card has the row's outcome
 abbrev pub Right : List Row → Type 0
 Right [] = Unit {0}
-Right (r ∷ rs) = (sheetOf (card (r .words)) ≡ r .outcome) × Right rs
+Right (r ∷ rs) = (sheetOf (card (r .words) 0) ≡ r .outcome) × Right rs
 
 -- |0><0|
 abbrev pub zeroState : Outcome
@@ -99,5 +99,5 @@ rows =
     ∷ []
 
 pub rows-right : Right rows
-unfolding isNan from build joined fold wordAt finite positive abs max negative precedes numbersAt wordsOf blank allFinite times modelRoles recordRoles afterWord0 layout breaks faulty unknown limitsOf past noMatrix word0Breaks qubitsBreak sequenceBreaks indicesBreak modelAt header examined wordAtFault sizeAtFault atFault lowest faultOf lengthRead readOf product pauliMatrices stringEntry pinned weight densityPart densityOf vetOf admitted testedOf sumOf dotOf matVecOf rowMatOf matMulOf swapped dividedRow lessRow eliminatedRow eliminated clearedBy scaleOf largerRow pivotRow besideAt besideIdentity columnReduced reductionOf rightHalves invertible inverseOf modelOf stateOf effectOf nameOf gateOf transformOf anyOf checkedOf numbersOf gateWords gatesWords modelWordsOf thresholdOf invertedOf inverseIn stateIn effectIn gateIn transformed newModel gaugedOf finiteOr checkedNumbers unitsOf significandOf exponentOf floorRoot nearRoot rootOf sqrt plus minus complexTimes scaled divided conjugate min magnitude entries partsOf matrix scaleBy matrixScale larger pivotIn pivotOf tangent turnOf turnedP turnedQ columnsAt columnsTurned turnedAt turned before insert orderBy sortedBy excess sumFrom stays activeCount threshold lowered filling jacobi unitVectorAt unit diagonal columnsIn ascending eigOf ascendingValues eigenvaluesOf coefficient term choiPart choiOf choiTested noneBelow choiValues toleranceOf positivityVerdict completelyPositive unitAt near nearUnit tracePreserving unital halvedAt halved termAt mixedAt mixed spectralNumbers spectralVerdict admission projectedVerdict projectedNumbers densitySheet projectedSheet processSheetOf physicalOf gaugeVerdict gaugeSheet through measured probabilitiesOf presentOf badProbability anyBad failing clamped totalOf countedOf plusTerm withTerm withTerms withRecord countsOf recordOnward likelihoodBy nested ln1p lnRatio entryOf poly lnPart lnOf lnBy ln sequenceOf countIn toleranceSheet diagnosticsSheet configOf goodConfig hasEntry placeOf placesOf repeated parameterVerdict parametersVerdict requestVerdict coordinateIn coordinateBreaks put usable distance objectiveOf evaluate displacement derivative gradient norm stepLength trial searchTo step afterSteps closed fitOf fitWords requestSheet fitSheet modelSheet kindSheet sheetOf ofBits ofFields odd toBits add sub mul div neg sum round units lt le eq span climb size ofInt
+unfolding card isNan from build joined fold wordAt finite positive abs max negative precedes numbersAt wordsOf blank allFinite times modelRoles recordRoles afterWord0 layout breaks faulty unknown limitsOf past noMatrix word0Breaks qubitsBreak sequenceBreaks indicesBreak modelAt header examined wordAtFault sizeAtFault atFault lowest faultOf lengthRead readOf product pauliMatrices stringEntry pinned weight densityPart densityOf vetOf admitted testedOf sumOf dotOf matVecOf rowMatOf matMulOf swapped dividedRow lessRow eliminatedRow eliminated clearedBy scaleOf largerRow pivotRow besideAt besideIdentity columnReduced reductionOf rightHalves invertible inverseOf modelOf stateOf effectOf nameOf gateOf transformOf anyOf checkedOf numbersOf gateWords gatesWords modelWordsOf thresholdOf invertedOf inverseIn stateIn effectIn gateIn transformed newModel gaugedOf finiteOr checkedNumbers unitsOf significandOf exponentOf floorRoot nearRoot rootOf sqrt plus minus complexTimes scaled divided conjugate min magnitude entries partsOf matrix scaleBy matrixScale larger pivotIn pivotOf tangent turnOf turnedP turnedQ columnsAt columnsTurned turnedAt turned before insert orderBy sortedBy excess sumFrom stays activeCount threshold lowered filling jacobi unitVectorAt unit diagonal columnsIn ascending eigOf ascendingValues eigenvaluesOf coefficient term choiPart choiOf choiTested noneBelow choiValues toleranceOf positivityVerdict completelyPositive unitAt near nearUnit tracePreserving unital halvedAt halved termAt mixedAt mixed spectralNumbers spectralVerdict admission projectedVerdict projectedNumbers densitySheet projectedSheet processSheetOf physicalOf gaugeVerdict gaugeSheet through measured probabilitiesOf presentOf badProbability anyBad failing clamped totalOf countedOf plusTerm withTerm withTerms withRecord countsOf recordOnward likelihoodBy nested ln1p lnRatio entryOf poly lnPart lnOf lnBy ln sequenceOf countIn toleranceSheet diagnosticsSheet configOf goodConfig hasEntry placeOf placesOf repeated parameterVerdict parametersVerdict requestVerdict coordinateIn coordinateBreaks put usable distance objectiveOf evaluate displacement derivative gradient norm stepLength trial searchTo step afterSteps closed fitOf fitWords requestSheet fitSheet modelSheet kindSheet sheetOf ofBits ofFields odd toBits add sub mul div neg sum round units lt le eq span climb size ofInt
 rows-right = (refl, (refl, (refl, (refl, (refl, (refl, (refl, (refl, (refl, (refl, (refl, (refl, (refl, tt)))))))))))))

@@ -5,7 +5,7 @@ use Rattle.lists.specs.Build.{over}
 use lib.Ieee.{Float}
 use denote.Ref.{now}
 use mathlib.Core.List.{List}
-use mathlib.Core.Path.{_≡_, sym, ap, _∙_}
+use mathlib.Core.Path.{sym, ap, _∙_}
 use borrow.Author.Needs.{needs}
 use Rattle.choi.proofs.normalized_choi.Statement.{statement}
 use Rattle.choi.proofs.normalized_choi.Tie as tie

@@ -1,7 +1,8 @@
 -- `diagnostics::add_record` meets its contract. Assumes nothing.
-use mathlib.Core.Path.{sym, _∙_}
+use mathlib.Core.Path.{refl, sym, _∙_}
 use lib.Seq.{length-take-le}
 use Rattle.lists.proofs.Parts.{front-again}
+use Rattle.likelihood.specs.declared.Likelihood.the-variants.{Fit}
 use Rattle.diagnostics.proofs.Records.{absent, present}
 use borrow.Author.Needs.{needs}
 use Rattle.diagnostics.proofs.add_record.Statement.{statement}
@@ -37,13 +38,13 @@ slice-aggregate-weigh-record c = sym (length-take-le _ _ (search needs))
 weigh-record-requires : tie.Need-weigh-record-requires
 weigh-record-requires c κs =
     let s = c .before .before .before .before .before .before .before .before .before .before .before .before .before .before .before .before .before .before in
-    (s .pre .0, s .pre .1 .there, s .pre .2, s .pre .3, sym (c .before .before .before .before .before .check-sequence .ensures) ∙ c .before .before .before .enum-told .given .1, s .pre .5, s .pre .6)
+    (s .pre .0, s .pre .1 .there, s .pre .2, sym (c .before .before .before .before .before .check-sequence .ensures) ∙ c .before .before .before .enum-told .given .1, s .pre .4, s .pre .5)
 
 same-length : tie.Need-same-length
 same-length c = search needs
 
 returns : tie.Need-returns
-returns c = absent _ _ _ _ _ _ _ _ _ _ (front-again _ _ (c .before .before .before .before .before .before .before .load-sequence .ensures) (sym (c .before .before .before .before .before .before .before .before .before .sequence-length .ensures))) (c .before .before .before .check-sequence .ensures) _ (c .before .found .given .1)
+returns c = absent _ _ _ _ _ _ _ _ _ (front-again _ _ (c .before .before .before .before .before .before .before .load-sequence .ensures) (sym (c .before .before .before .before .before .before .before .before .before .sequence-length .ensures))) (c .before .before .before .check-sequence .ensures) _ (c .before .found .given .1) (Fit _) _ refl
 
 same-length-2 : tie.Need-same-length-2
 same-length-2 c = search needs
@@ -55,7 +56,7 @@ same-length-4 : tie.Need-same-length-4
 same-length-4 c = search needs
 
 returns-2 : tie.Need-returns-2
-returns-2 c = present _ _ _ _ _ _ _ _ _ _ (front-again _ _ (c .before .before .before .before .before .before .before .before .before .before .before .before .before .before .load-sequence .ensures) (sym (c .before .before .before .before .before .before .before .before .before .before .before .before .before .before .before .before .sequence-length .ensures))) (c .before .before .before .before .before .before .before .before .before .before .check-sequence .ensures) _ (c .before .before .before .before .before .before .before .before .enum-told .given .1) (c .before .before .before .before .weigh-record .ensures)
+returns-2 c = present _ _ _ _ _ _ _ _ _ (front-again _ _ (c .before .before .before .before .before .before .before .before .before .before .before .before .before .before .load-sequence .ensures) (sym (c .before .before .before .before .before .before .before .before .before .before .before .before .before .before .before .before .sequence-length .ensures))) (c .before .before .before .before .before .before .before .before .before .before .check-sequence .ensures) (c .before .before .before .before .before .before .before .before .enum-told .given .1) (Fit _) _ (c .before .before .before .before .weigh-record .ensures)
 
 pub add-record-spec : {M : Type 1} → statement M
 add-record-spec =

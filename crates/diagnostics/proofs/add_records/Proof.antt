@@ -25,7 +25,7 @@ loop-holds c = (search needs, search needs, search needs, search needs, fold-non
 record-onward-requires : tie.Need-record-onward-requires Inv-loop μ-loop
 record-onward-requires c κs =
     let s = c .before .before .before .before .before .before .before .before .before .before .before in
-    (s .pre .0, s .pre .1 _ (c .before .before .before .loop-test .taken), s .pre .2, s .pre .3, search needs, search needs, search needs)
+    (s .pre .0, s .pre .1 _ (c .before .before .before .loop-test .taken), s .pre .2, search needs, search needs, search needs)
 
 add-r : tie.Need-add-r Inv-loop μ-loop
 add-r c = search needs

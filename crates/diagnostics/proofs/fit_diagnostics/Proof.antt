@@ -47,7 +47,7 @@ slice-aggregate-add-records-4 c = search needs
 add-records-requires : tie.Need-add-records-requires
 add-records-requires c κs =
     let s = c .before .before .before .before .before .before .before .before .before .before .before .before .before .before .before .before .before .before in
-    (s .pre .0, s .pre .1, s .pre .2, columns-lent _ _ _ _ _ _ (c .before .before .before .before .before .before .before .before .before .before .before .before .before .gates-by-columns .ensures), search needs, search needs, search needs)
+    (s .pre .0, s .pre .1, (s .pre .2, columns-lent _ _ _ _ _ _ (c .before .before .before .before .before .before .before .before .before .before .before .before .before .gates-by-columns .ensures)), search needs, search needs, search needs)
 
 same-length : tie.Need-same-length
 same-length c = search needs

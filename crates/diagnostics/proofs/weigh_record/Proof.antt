@@ -1,4 +1,5 @@
 -- `diagnostics::weigh_record` meets its contract. Assumes nothing.
+use Rattle.likelihood.specs.declared.Likelihood.the-variants.{Fit}
 use Rattle.diagnostics.proofs.Records.{gates-lie, one-for-each, weighed}
 use mathlib.Core.Path.{sym}
 use lib.Seq.{length-take-le}
@@ -12,7 +13,7 @@ load-counts-requires c κs = search needs
 probabilities-requires : tie.Need-probabilities-requires
 probabilities-requires c κs =
     let s = c .before .before .before .before .before .before .before .before .before .before .before in
-    (search needs, search needs, search needs, search needs, gates-lie _ _ _ _ _ _ (s .pre .3) (s .pre .4))
+    (search needs, search needs, search needs, search needs, gates-lie _ _ _ _ _ _ (s .pre .2 .1) (s .pre .3))
 
 slice-reshare-prefix-with-record : tie.Need-slice-reshare-prefix-with-record
 slice-reshare-prefix-with-record c = search needs
@@ -29,7 +30,7 @@ slice-aggregate-with-record-2 c = sym (length-take-le _ _ (search needs))
 with-record-requires : tie.Need-with-record-requires
 with-record-requires c κs =
     let s = c .before .before .before .before .before .before .before .before .before .before .before .before .before .before .before .before in
-    one-for-each _ _ _ _ _ _ (s .pre .3) (s .pre .4) _ _ _ _ (c .before .before .before .before .before .before .before .before .load-counts .ensures) (c .before .before .before .before .probabilities .ensures)
+    one-for-each _ _ _ _ _ _ (s .pre .2 .1) (s .pre .3) _ _ _ _ (c .before .before .before .before .before .before .before .before .load-counts .ensures) (c .before .before .before .before .probabilities .ensures)
 
 same-length : tie.Need-same-length
 same-length c = search needs
@@ -40,7 +41,7 @@ same-length-2 c = search needs
 returns : tie.Need-returns
 returns c =
     let s = c .before .before .before .before .before .before .before .before .before .before .before .before .before .before .before .before .before in
-    weighed _ _ _ _ _ _ (s .pre .3) (s .pre .4) _ _ _ _ (c .before .before .before .before .before .before .before .before .before .load-counts .ensures) (c .before .before .before .before .before .probabilities .ensures) _ _ _ _ _ (c .with-record .ensures)
+    weighed _ _ _ _ _ _ (s .pre .2 .1) (s .pre .3) _ _ _ _ (c .before .before .before .before .before .before .before .before .before .load-counts .ensures) (c .before .before .before .before .before .probabilities .ensures) _ _ _ (Fit _) _ (c .with-record .ensures)
 
 pub weigh-record-spec : {M : Type 1} → statement M
 weigh-record-spec =

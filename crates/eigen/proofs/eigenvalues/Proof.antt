@@ -1,5 +1,5 @@
 -- `eigen::eigenvalues` meets its contract. Assumes nothing.
-use Rattle.eigen.proofs.Running.{square-small}
+use Rattle.sizes.proofs.Small.{square-most}
 use Rattle.eigen.proofs.Copies.{copy-is, copy-fits, copy-long}
 use Rattle.eigen.specs.Jacobi.{eigenvaluesOf}
 use Rattle.entries.specs.Entries.{entries}
@@ -9,7 +9,7 @@ use denote.Ref.{now}
 use native.Mathlib.Omega.{arith}
 use Prim.Native.Nat.{_*_}
 use mathlib.Core.List.{List}
-use mathlib.Core.Path.{refl, sym, ap, _∙_}
+use mathlib.Core.Path.{sym, ap, _∙_}
 use borrow.Author.Needs.{needs}
 use Rattle.eigen.proofs.eigenvalues.Statement.{statement}
 use Rattle.eigen.proofs.eigenvalues.Tie as tie
@@ -33,19 +33,19 @@ matrix-room-requires : tie.Need-matrix-room-requires
 matrix-room-requires c κs = search needs
 
 array-borrow-prefix-m : tie.Need-array-borrow-prefix-m
-array-borrow-prefix-m c = let s = c .before .before .before .before .before .before in omega (arith, square-small (s .args .n) (s .pre .3))
+array-borrow-prefix-m c = let s = c .before .before .before .before .before .before in omega (arith, square-most (s .args .n) (s .pre .3))
 
 slice-aggregate-put-row : tie.Need-slice-aggregate-put-row
-slice-aggregate-put-row c = let s = c .before .before .before .before .before .before .before in sym (length-take-le _ _ (omega (arith, square-small (s .args .n) (s .pre .3))))
+slice-aggregate-put-row c = let s = c .before .before .before .before .before .before .before in sym (length-take-le _ _ (omega (arith, square-most (s .args .n) (s .pre .3))))
 
 put-row-requires : tie.Need-put-row-requires
-put-row-requires c κs = let s = c .before .before .before .before .before .before .before in omega (arith, length-take-le (2 * (s .args .n * s .args .n)) (c .before .matrix-room .result) (omega (arith, square-small (s .args .n) (s .pre .3), c .before .matrix-room .ensures)), s .pre .0)
+put-row-requires c κs = let s = c .before .before .before .before .before .before .before in omega (arith, length-take-le (2 * (s .args .n * s .args .n)) (c .before .matrix-room .result) (omega (arith, square-most (s .args .n) (s .pre .3), c .before .matrix-room .ensures)), s .pre .0)
 
 array-borrow-prefix-m-2 : tie.Need-array-borrow-prefix-m-2
-array-borrow-prefix-m-2 c = let s = c .before .before .before .before .before .before .before .before .before in copy-fits (2 * (s .args .n * s .args .n)) (c .before .before .before .matrix-room .result) (now (s .args .a)) _ (omega (arith, square-small (s .args .n) (s .pre .3), c .before .before .before .matrix-room .ensures)) (s .pre .0) (c .before .put-row .ensures)
+array-borrow-prefix-m-2 c = let s = c .before .before .before .before .before .before .before .before .before in copy-fits (2 * (s .args .n * s .args .n)) (c .before .before .before .matrix-room .result) (now (s .args .a)) _ (omega (arith, square-most (s .args .n) (s .pre .3), c .before .before .before .matrix-room .ensures)) (s .pre .0) (c .before .put-row .ensures)
 
 slice-aggregate-eigenvalues-in : tie.Need-slice-aggregate-eigenvalues-in
-slice-aggregate-eigenvalues-in c = let s = c .before .before .before .before .before .before .before .before .before .before in sym (copy-long (2 * (s .args .n * s .args .n)) (c .before .before .before .before .matrix-room .result) (now (s .args .a)) _ (omega (arith, square-small (s .args .n) (s .pre .3), c .before .before .before .before .matrix-room .ensures)) (s .pre .0) (c .before .before .put-row .ensures))
+slice-aggregate-eigenvalues-in c = let s = c .before .before .before .before .before .before .before .before .before .before in sym (copy-long (2 * (s .args .n * s .args .n)) (c .before .before .before .before .matrix-room .result) (now (s .args .a)) _ (omega (arith, square-most (s .args .n) (s .pre .3), c .before .before .before .before .matrix-room .ensures)) (s .pre .0) (c .before .before .put-row .ensures))
 
 array-borrow-prefix-none : tie.Need-array-borrow-prefix-none
 array-borrow-prefix-none c = search needs
@@ -54,16 +54,16 @@ slice-aggregate-eigenvalues-in-2 : tie.Need-slice-aggregate-eigenvalues-in-2
 slice-aggregate-eigenvalues-in-2 c = search needs
 
 array-borrow-prefix-bounds : tie.Need-array-borrow-prefix-bounds
-array-borrow-prefix-bounds c = let s = c .before .before .before .before .before .before .before .before .before .before .before .before in omega (arith, square-small (s .args .n) (s .pre .3))
+array-borrow-prefix-bounds c = let s = c .before .before .before .before .before .before .before .before .before .before .before .before in omega (arith, square-most (s .args .n) (s .pre .3))
 
 slice-aggregate-eigenvalues-in-3 : tie.Need-slice-aggregate-eigenvalues-in-3
-slice-aggregate-eigenvalues-in-3 c = let s = c .before .before .before .before .before .before .before .before .before .before .before .before .before in sym (length-take-le _ _ (omega (arith, square-small (s .args .n) (s .pre .3))))
+slice-aggregate-eigenvalues-in-3 c = let s = c .before .before .before .before .before .before .before .before .before .before .before .before .before in sym (length-take-le _ _ (omega (arith, square-most (s .args .n) (s .pre .3))))
 
 array-borrow-prefix-sizes : tie.Need-array-borrow-prefix-sizes
-array-borrow-prefix-sizes c = let s = c .before .before .before .before .before .before .before .before .before .before .before .before .before in omega (arith, square-small (s .args .n) (s .pre .3))
+array-borrow-prefix-sizes c = let s = c .before .before .before .before .before .before .before .before .before .before .before .before .before in omega (arith, square-most (s .args .n) (s .pre .3))
 
 slice-aggregate-eigenvalues-in-4 : tie.Need-slice-aggregate-eigenvalues-in-4
-slice-aggregate-eigenvalues-in-4 c = let s = c .before .before .before .before .before .before .before .before .before .before .before .before .before .before in sym (length-take-le _ _ (omega (arith, square-small (s .args .n) (s .pre .3))))
+slice-aggregate-eigenvalues-in-4 c = let s = c .before .before .before .before .before .before .before .before .before .before .before .before .before .before in sym (length-take-le _ _ (omega (arith, square-most (s .args .n) (s .pre .3))))
 
 array-borrow-prefix-order : tie.Need-array-borrow-prefix-order
 array-borrow-prefix-order c = search needs
@@ -74,7 +74,7 @@ slice-aggregate-eigenvalues-in-5 c = sym (length-take-le _ _ (search needs))
 eigenvalues-in-requires : tie.Need-eigenvalues-in-requires
 eigenvalues-in-requires c κs =
     let s = c .before .before .before .before .before .before .before .before .before .before .before .before .before .before .before in
-    let q = square-small (s .args .n) (s .pre .3) in
+    let q = square-most (s .args .n) (s .pre .3) in
     (copy-long (2 * (s .args .n * s .args .n)) (c .before .before .before .before .before .before .before .before .before .matrix-room .result) (now (s .args .a)) _ (omega (arith, q, c .before .before .before .before .before .before .before .before .before .matrix-room .ensures)) (s .pre .0) (c .before .before .before .before .before .before .before .put-row .ensures), s .pre .1, search needs, s .pre .2, length-take-le _ _ (omega (arith, q)), length-take-le _ _ (omega (arith, q)), length-take-le _ _ (search needs))
 
 same-length : tie.Need-same-length
@@ -83,7 +83,7 @@ same-length c = search needs
 returns : tie.Need-returns
 returns c =
     let s = c .before .before .before .before .before .before .before .before .before .before .before .before .before .before .before .before .before .before .before .before .before .before .before in
-    let e = copy-is (2 * (s .args .n * s .args .n)) (c .before .before .before .before .before .before .before .before .before .before .before .before .before .before .before .before .before .matrix-room .result) (now (s .args .a)) _ (omega (arith, square-small (s .args .n) (s .pre .3), c .before .before .before .before .before .before .before .before .before .before .before .before .before .before .before .before .before .matrix-room .ensures)) (s .pre .0) (c .before .before .before .before .before .before .before .before .before .before .before .before .before .before .before .put-row .ensures) in
+    let e = copy-is (2 * (s .args .n * s .args .n)) (c .before .before .before .before .before .before .before .before .before .before .before .before .before .before .before .before .before .matrix-room .result) (now (s .args .a)) _ (omega (arith, square-most (s .args .n) (s .pre .3), c .before .before .before .before .before .before .before .before .before .before .before .before .before .before .before .before .before .matrix-room .ensures)) (s .pre .0) (c .before .before .before .before .before .before .before .before .before .before .before .before .before .before .before .put-row .ensures) in
     c .before .before .before .before .before .before .before .eigenvalues-in .ensures ∙ ap (λ (m : List Float). eigenvaluesOf (s .args .n) (s .args .tolerance) (s .args .rotations) (entries m)) e
 
 pub eigenvalues-spec : {M : Type 1} → statement M

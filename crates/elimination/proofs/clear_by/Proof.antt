@@ -5,7 +5,7 @@ use native.Mathlib.Omega.{arith}
 use denote.Ref.{now}
 use lib.Seq.{length-take-le}
 use Rattle.lists.proofs.Parts.{front-long, row-fits, lent-long, copied-long}
-use Rattle.elimination.proofs.Lent.{length-divided, cleared-back}
+use Rattle.elimination.proofs.Lent.{length-from, cleared-back}
 use borrow.Author.Needs.{needs}
 use Rattle.elimination.proofs.clear_by.Statement.{statement}
 use Rattle.elimination.proofs.clear_by.Tie as tie
@@ -50,19 +50,19 @@ divide-row-requires : tie.Need-divide-row-requires
 divide-row-requires c κs = (omega (arith, copied-long (c .before .before .before .before .before .before .before .before .before .before .before .args .p * c .before .before .before .before .before .before .before .before .before .before .before .args .w) (c .before .before .before .before .before .before .before .before .before .before .before .args .w) (now (c .before .before .before .before .before .before .before .before .before .before .before .args .work)) _ _ (row-fits (c .before .before .before .before .before .before .before .before .before .before .before .args .p) (c .before .before .before .before .before .before .before .before .before .before .before .args .n) (c .before .before .before .before .before .before .before .before .before .before .before .args .w) _ (c .before .before .before .before .before .before .before .before .before .before .before .pre .1) (c .before .before .before .before .before .before .before .before .before .before .before .pre .4)) (c .before .before .before .before .before .before .before .copy-row .ensures)), lent-long (c .before .before .before .before .before .before .before .before .before .before .before .args .k * c .before .before .before .before .before .before .before .before .before .before .before .args .w) (c .before .before .before .before .before .before .before .before .before .before .before .args .k * c .before .before .before .before .before .before .before .before .before .before .before .args .w + c .before .before .before .before .before .before .before .before .before .before .before .args .w) (c .before .before .before .before .before .before .before .before .before .before .before .args .w) _ refl (omega (arith, row-fits (c .before .before .before .before .before .before .before .before .before .before .before .args .k) (c .before .before .before .before .before .before .before .before .before .before .before .args .n) (c .before .before .before .before .before .before .before .before .before .before .before .args .w) _ (c .before .before .before .before .before .before .before .before .before .before .before .pre .0) (c .before .before .before .before .before .before .before .before .before .before .before .pre .4))) ∙ sym (copied-long (c .before .before .before .before .before .before .before .before .before .before .before .args .p * c .before .before .before .before .before .before .before .before .before .before .before .args .w) (c .before .before .before .before .before .before .before .before .before .before .before .args .w) (now (c .before .before .before .before .before .before .before .before .before .before .before .args .work)) _ _ (row-fits (c .before .before .before .before .before .before .before .before .before .before .before .args .p) (c .before .before .before .before .before .before .before .before .before .before .before .args .n) (c .before .before .before .before .before .before .before .before .before .before .before .args .w) _ (c .before .before .before .before .before .before .before .before .before .before .before .pre .1) (c .before .before .before .before .before .before .before .before .before .before .before .pre .4)) (c .before .before .before .before .before .before .before .copy-row .ensures)))
 
 array-share-prefix-pivot : tie.Need-array-share-prefix-pivot
-array-share-prefix-pivot c = front-long (c .before .before .before .before .before .before .before .before .before .before .before .before .before .before .before .before .args .w) _ _ _ (c .before .before .before .before .divide-row .ensures .0) (length-divided _ _ ∙ copied-long (c .before .before .before .before .before .before .before .before .before .before .before .before .before .before .before .before .args .p * c .before .before .before .before .before .before .before .before .before .before .before .before .before .before .before .before .args .w) (c .before .before .before .before .before .before .before .before .before .before .before .before .before .before .before .before .args .w) (now (c .before .before .before .before .before .before .before .before .before .before .before .before .before .before .before .before .args .work)) _ _ (row-fits (c .before .before .before .before .before .before .before .before .before .before .before .before .before .before .before .before .args .p) (c .before .before .before .before .before .before .before .before .before .before .before .before .before .before .before .before .args .n) (c .before .before .before .before .before .before .before .before .before .before .before .before .before .before .before .before .args .w) _ (c .before .before .before .before .before .before .before .before .before .before .before .before .before .before .before .before .pre .1) (c .before .before .before .before .before .before .before .before .before .before .before .before .before .before .before .before .pre .4)) (c .before .before .before .before .before .before .before .before .before .before .before .before .copy-row .ensures))
+array-share-prefix-pivot c = front-long (c .before .before .before .before .before .before .before .before .before .before .before .before .before .before .before .before .args .w) _ _ _ (c .before .before .before .before .divide-row .ensures .0) (length-from _ _ _ ∙ copied-long (c .before .before .before .before .before .before .before .before .before .before .before .before .before .before .before .before .args .p * c .before .before .before .before .before .before .before .before .before .before .before .before .before .before .before .before .args .w) (c .before .before .before .before .before .before .before .before .before .before .before .before .before .before .before .before .args .w) (now (c .before .before .before .before .before .before .before .before .before .before .before .before .before .before .before .before .args .work)) _ _ (row-fits (c .before .before .before .before .before .before .before .before .before .before .before .before .before .before .before .before .args .p) (c .before .before .before .before .before .before .before .before .before .before .before .before .before .before .before .before .args .n) (c .before .before .before .before .before .before .before .before .before .before .before .before .before .before .before .before .args .w) _ (c .before .before .before .before .before .before .before .before .before .before .before .before .before .before .before .before .pre .1) (c .before .before .before .before .before .before .before .before .before .before .before .before .before .before .before .before .pre .4)) (c .before .before .before .before .before .before .before .before .before .before .before .before .copy-row .ensures))
 
 slice-aggregate-eliminate-rows : tie.Need-slice-aggregate-eliminate-rows
-slice-aggregate-eliminate-rows c = sym (length-take-le _ _ (front-long (c .before .before .before .before .before .before .before .before .before .before .before .before .before .before .before .before .before .args .w) _ _ _ (c .before .before .before .before .before .divide-row .ensures .0) (length-divided _ _ ∙ copied-long (c .before .before .before .before .before .before .before .before .before .before .before .before .before .before .before .before .before .args .p * c .before .before .before .before .before .before .before .before .before .before .before .before .before .before .before .before .before .args .w) (c .before .before .before .before .before .before .before .before .before .before .before .before .before .before .before .before .before .args .w) (now (c .before .before .before .before .before .before .before .before .before .before .before .before .before .before .before .before .before .args .work)) _ _ (row-fits (c .before .before .before .before .before .before .before .before .before .before .before .before .before .before .before .before .before .args .p) (c .before .before .before .before .before .before .before .before .before .before .before .before .before .before .before .before .before .args .n) (c .before .before .before .before .before .before .before .before .before .before .before .before .before .before .before .before .before .args .w) _ (c .before .before .before .before .before .before .before .before .before .before .before .before .before .before .before .before .before .pre .1) (c .before .before .before .before .before .before .before .before .before .before .before .before .before .before .before .before .before .pre .4)) (c .before .before .before .before .before .before .before .before .before .before .before .before .before .copy-row .ensures))))
+slice-aggregate-eliminate-rows c = sym (length-take-le _ _ (front-long (c .before .before .before .before .before .before .before .before .before .before .before .before .before .before .before .before .before .args .w) _ _ _ (c .before .before .before .before .before .divide-row .ensures .0) (length-from _ _ _ ∙ copied-long (c .before .before .before .before .before .before .before .before .before .before .before .before .before .before .before .before .before .args .p * c .before .before .before .before .before .before .before .before .before .before .before .before .before .before .before .before .before .args .w) (c .before .before .before .before .before .before .before .before .before .before .before .before .before .before .before .before .before .args .w) (now (c .before .before .before .before .before .before .before .before .before .before .before .before .before .before .before .before .before .args .work)) _ _ (row-fits (c .before .before .before .before .before .before .before .before .before .before .before .before .before .before .before .before .before .args .p) (c .before .before .before .before .before .before .before .before .before .before .before .before .before .before .before .before .before .args .n) (c .before .before .before .before .before .before .before .before .before .before .before .before .before .before .before .before .before .args .w) _ (c .before .before .before .before .before .before .before .before .before .before .before .before .before .before .before .before .before .pre .1) (c .before .before .before .before .before .before .before .before .before .before .before .before .before .before .before .before .before .pre .4)) (c .before .before .before .before .before .before .before .before .before .before .before .before .before .copy-row .ensures))))
 
 eliminate-rows-requires : tie.Need-eliminate-rows-requires
-eliminate-rows-requires c κs = (search needs, length-take-le _ _ (front-long (c .before .before .before .before .before .before .before .before .before .before .before .before .before .before .before .before .before .args .w) _ _ _ (c .before .before .before .before .before .divide-row .ensures .0) (length-divided _ _ ∙ copied-long (c .before .before .before .before .before .before .before .before .before .before .before .before .before .before .before .before .before .args .p * c .before .before .before .before .before .before .before .before .before .before .before .before .before .before .before .before .before .args .w) (c .before .before .before .before .before .before .before .before .before .before .before .before .before .before .before .before .before .args .w) (now (c .before .before .before .before .before .before .before .before .before .before .before .before .before .before .before .before .before .args .work)) _ _ (row-fits (c .before .before .before .before .before .before .before .before .before .before .before .before .before .before .before .before .before .args .p) (c .before .before .before .before .before .before .before .before .before .before .before .before .before .before .before .before .before .args .n) (c .before .before .before .before .before .before .before .before .before .before .before .before .before .before .before .before .before .args .w) _ (c .before .before .before .before .before .before .before .before .before .before .before .before .before .before .before .before .before .pre .1) (c .before .before .before .before .before .before .before .before .before .before .before .before .before .before .before .before .before .pre .4)) (c .before .before .before .before .before .before .before .before .before .before .before .before .before .copy-row .ensures))), search needs)
+eliminate-rows-requires c κs = (search needs, search needs, length-take-le _ _ (front-long (c .before .before .before .before .before .before .before .before .before .before .before .before .before .before .before .before .before .args .w) _ _ _ (c .before .before .before .before .before .divide-row .ensures .0) (length-from _ _ _ ∙ copied-long (c .before .before .before .before .before .before .before .before .before .before .before .before .before .before .before .before .before .args .p * c .before .before .before .before .before .before .before .before .before .before .before .before .before .before .before .before .before .args .w) (c .before .before .before .before .before .before .before .before .before .before .before .before .before .before .before .before .before .args .w) (now (c .before .before .before .before .before .before .before .before .before .before .before .before .before .before .before .before .before .args .work)) _ _ (row-fits (c .before .before .before .before .before .before .before .before .before .before .before .before .before .before .before .before .before .args .p) (c .before .before .before .before .before .before .before .before .before .before .before .before .before .before .before .before .before .args .n) (c .before .before .before .before .before .before .before .before .before .before .before .before .before .before .before .before .before .args .w) _ (c .before .before .before .before .before .before .before .before .before .before .before .before .before .before .before .before .before .pre .1) (c .before .before .before .before .before .before .before .before .before .before .before .before .before .before .before .before .before .pre .4)) (c .before .before .before .before .before .before .before .before .before .before .before .before .before .copy-row .ensures))), search needs)
 
 same-length : tie.Need-same-length
 same-length c = search needs
 
 returns : tie.Need-returns
-returns c = cleared-back (c .before .before .before .before .before .before .before .before .before .before .before .before .before .before .before .before .before .before .before .before .args .n) (c .before .before .before .before .before .before .before .before .before .before .before .before .before .before .before .before .before .before .before .before .args .w) (c .before .before .before .before .before .before .before .before .before .before .before .before .before .before .before .before .before .before .before .before .args .k) (c .before .before .before .before .before .before .before .before .before .before .before .before .before .before .before .before .before .before .before .before .args .p) (now (c .before .before .before .before .before .before .before .before .before .before .before .before .before .before .before .before .before .before .before .before .args .work)) _ _ _ _ _ _ (row-fits (c .before .before .before .before .before .before .before .before .before .before .before .before .before .before .before .before .before .before .before .before .args .k) (c .before .before .before .before .before .before .before .before .before .before .before .before .before .before .before .before .before .before .before .before .args .n) (c .before .before .before .before .before .before .before .before .before .before .before .before .before .before .before .before .before .before .before .before .args .w) _ (c .before .before .before .before .before .before .before .before .before .before .before .before .before .before .before .before .before .before .before .before .pre .0) (c .before .before .before .before .before .before .before .before .before .before .before .before .before .before .before .before .before .before .before .before .pre .4)) (row-fits (c .before .before .before .before .before .before .before .before .before .before .before .before .before .before .before .before .before .before .before .before .args .p) (c .before .before .before .before .before .before .before .before .before .before .before .before .before .before .before .before .before .before .before .before .args .n) (c .before .before .before .before .before .before .before .before .before .before .before .before .before .before .before .before .before .before .before .before .args .w) _ (c .before .before .before .before .before .before .before .before .before .before .before .before .before .before .before .before .before .before .before .before .pre .1) (c .before .before .before .before .before .before .before .before .before .before .before .before .before .before .before .before .before .before .before .before .pre .4)) (c .before .before .before .before .before .before .before .before .before .before .before .before .before .before .before .before .copy-row .ensures) (c .before .before .before .before .before .before .before .before .before .before .before .before .before .move-row .ensures) (c .before .before .before .before .before .before .before .before .divide-row .ensures .0) (c .before .before .before .before .before .before .before .before .divide-row .ensures .1) (c .before .before .eliminate-rows .ensures)
+returns c = cleared-back (c .before .before .before .before .before .before .before .before .before .before .before .before .before .before .before .before .before .before .before .before .args .c) (c .before .before .before .before .before .before .before .before .before .before .before .before .before .before .before .before .before .before .before .before .args .n) (c .before .before .before .before .before .before .before .before .before .before .before .before .before .before .before .before .before .before .before .before .args .w) (c .before .before .before .before .before .before .before .before .before .before .before .before .before .before .before .before .before .before .before .before .args .k) (c .before .before .before .before .before .before .before .before .before .before .before .before .before .before .before .before .before .before .before .before .args .p) (now (c .before .before .before .before .before .before .before .before .before .before .before .before .before .before .before .before .before .before .before .before .args .work)) _ _ _ _ _ _ (row-fits (c .before .before .before .before .before .before .before .before .before .before .before .before .before .before .before .before .before .before .before .before .args .k) (c .before .before .before .before .before .before .before .before .before .before .before .before .before .before .before .before .before .before .before .before .args .n) (c .before .before .before .before .before .before .before .before .before .before .before .before .before .before .before .before .before .before .before .before .args .w) _ (c .before .before .before .before .before .before .before .before .before .before .before .before .before .before .before .before .before .before .before .before .pre .0) (c .before .before .before .before .before .before .before .before .before .before .before .before .before .before .before .before .before .before .before .before .pre .4)) (row-fits (c .before .before .before .before .before .before .before .before .before .before .before .before .before .before .before .before .before .before .before .before .args .p) (c .before .before .before .before .before .before .before .before .before .before .before .before .before .before .before .before .before .before .before .before .args .n) (c .before .before .before .before .before .before .before .before .before .before .before .before .before .before .before .before .before .before .before .before .args .w) _ (c .before .before .before .before .before .before .before .before .before .before .before .before .before .before .before .before .before .before .before .before .pre .1) (c .before .before .before .before .before .before .before .before .before .before .before .before .before .before .before .before .before .before .before .before .pre .4)) (c .before .before .before .before .before .before .before .before .before .before .before .before .before .before .before .before .copy-row .ensures) (c .before .before .before .before .before .before .before .before .before .before .before .before .before .move-row .ensures) (c .before .before .before .before .before .before .before .before .divide-row .ensures .0) (c .before .before .before .before .before .before .before .before .divide-row .ensures .1) (c .before .before .eliminate-rows .ensures)
 
 pub clear-by-spec : {M : Type 1} → statement M
 clear-by-spec =

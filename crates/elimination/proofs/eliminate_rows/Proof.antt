@@ -6,22 +6,22 @@ use lib.ListN.{length}
 use Rattle.lists.specs.Fold.{fold}
 use Rattle.lists.proofs.Folding.{fold-none, fold-more, fold-end}
 use Rattle.lists.proofs.Parts.{row-fits}
-use Rattle.elimination.specs.Rows.{eliminatedRow}
+use Rattle.elimination.specs.Rows.{eliminatedFrom}
 use borrow.Author.Needs.{needs}
 use Rattle.elimination.proofs.eliminate_rows.Statement.{statement}
 use Rattle.elimination.proofs.eliminate_rows.Tie as tie
 
 abbrev Inv-loop : tie.InvT-loop
-Inv-loop work₀ pivot n w k i₀ work i = (i ≤ n) × (length work ≡ length work₀) × (work ≡ fold i (eliminatedRow pivot w k) work₀)
+Inv-loop work₀ pivot n w k c i₀ work i = (i ≤ n) × (length work ≡ length work₀) × (work ≡ fold i (eliminatedFrom c pivot w k) work₀)
 
 abbrev μ-loop : tie.MeasureT-loop
-μ-loop work₀ pivot n w k i₀ work i = n - i
+μ-loop work₀ pivot n w k c i₀ work i = n - i
 
 loop-holds : tie.Need-loop-holds Inv-loop μ-loop
 loop-holds c = (search needs, search needs, fold-none _ _)
 
 eliminate-row-requires : tie.Need-eliminate-row-requires Inv-loop μ-loop
-eliminate-row-requires c κs = (search needs, search needs, row-fits (c .before .before .loop .i) (c .before .before .before .before .before .args .n) (c .before .before .before .before .before .args .w) _ (c .before .loop-test .taken) (search needs))
+eliminate-row-requires c κs = (search needs, search needs, search needs, row-fits (c .before .before .loop .i) (c .before .before .before .before .before .args .n) (c .before .before .before .before .before .args .w) _ (c .before .loop-test .taken) (search needs))
 
 add-i : tie.Need-add-i Inv-loop μ-loop
 add-i c = search needs

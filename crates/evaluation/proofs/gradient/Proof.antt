@@ -1,123 +1,73 @@
 -- `evaluation::gradient` meets its contract. Assumes nothing.
-use Prim.Native.Nat.{_≤_, _-_}
-use mathlib.Core.Path.{_≡_}
+use mathlib.Core.Path.{sym, _∙_}
 use native.Mathlib.Omega.{arith}
-use denote.Ref.{now}
-use lib.ListN.{length, take}
-use Rattle.descent.specs.Fit.{slopes, derivative, gradient}
-use Rattle.evaluation.specs.Job.{jobBy}
-use Rattle.evaluation.proofs.Lending.{lent-on}
-use Rattle.evaluation.proofs.Slopes.{slopesTo, slopes-none, slopes-more, slopes-stop, slopes-all}
+use lib.Seq.{length-take-le}
+use Rattle.model_words.proofs.Sizes.{gates-most}
 use borrow.Author.Needs.{needs}
 use Rattle.evaluation.proofs.gradient.Statement.{statement}
 use Rattle.evaluation.proofs.gradient.Tie as tie
 
-abbrev Inv-loop : tie.InvT-loop
-Inv-loop card h places c anchor xs o g₀ probed₀ model₀ columns₀ n i₀ g probed model columns i =
-    (i ≤ n) × (length g ≡ length g₀) × (length probed ≡ length probed₀) × (length model ≡ length model₀) × (length columns ≡ length columns₀)
-    × (slopesTo (derivative (jobBy card h places c) xs o) i ≡ slopes (take i g))
+model-numbers-requires : tie.Need-model-numbers-requires
+model-numbers-requires c κs = search needs
 
-abbrev μ-loop : tie.MeasureT-loop
-μ-loop card h places c anchor xs o g₀ probed₀ model₀ columns₀ n i₀ g probed model columns i = n - i
+probe-room-requires : tie.Need-probe-room-requires
+probe-room-requires c κs = search needs
 
-loop-holds : tie.Need-loop-holds Inv-loop μ-loop
-loop-holds c = (search needs, search needs, search needs, search needs, search needs, slopes-none _ (now (c .before .before .before .before .before .before .before .before .args .g)))
+model-room-requires : tie.Need-model-room-requires
+model-room-requires c κs = search needs
 
-derivative-requires : tie.Need-derivative-requires Inv-loop μ-loop
-derivative-requires c κs =
-    let s = c .before .before .before .before .before .before .before .before .before .before .before .before .before in
-    (lent-on _ _ (s .pre .0) (search needs) (search needs), search needs, search needs, search needs)
+columns-room-requires : tie.Need-columns-room-requires
+columns-room-requires c κs = search needs
 
-enum-known-d : tie.Need-enum-known-d Inv-loop μ-loop
-enum-known-d c = search needs
+array-borrow-prefix-left : tie.Need-array-borrow-prefix-left
+array-borrow-prefix-left c = search needs
 
-mul-g : tie.Need-mul-g Inv-loop μ-loop
-mul-g c = search needs
+slice-aggregate-differentiate : tie.Need-slice-aggregate-differentiate
+slice-aggregate-differentiate c = sym (length-take-le _ _ (search needs))
 
-slice-write-g : tie.Need-slice-write-g Inv-loop μ-loop
-slice-write-g c = search needs
+array-borrow-prefix-other : tie.Need-array-borrow-prefix-other
+array-borrow-prefix-other c = search needs
 
-enum-known-d-2 : tie.Need-enum-known-d-2 Inv-loop μ-loop
-enum-known-d-2 c = search needs
+slice-aggregate-differentiate-2 : tie.Need-slice-aggregate-differentiate-2
+slice-aggregate-differentiate-2 c = sym (length-take-le _ _ (search needs))
 
-same-length : tie.Need-same-length Inv-loop μ-loop
+slice-aggregate-differentiate-3 : tie.Need-slice-aggregate-differentiate-3
+slice-aggregate-differentiate-3 c = search needs
+
+differentiate-requires : tie.Need-differentiate-requires
+differentiate-requires c κs = let s = c .before .before .before .before .before .before .before .before .before .before .before .before .before .before .before .before .before .before .before .pre in (s .0, record { placed = s .0 .placed; anchored = s .0 .anchored; model-room = length-take-le _ _ (search needs) ∙ c .before .before .before .before .before .before .before .before .before .before .model-numbers .ensures .0; columns-room = omega (arith, gates-most (c .before .before .before .before .before .before .before .before .before .before .before .before .before .before .before .before .before .before .before .args .h) (s .0 .placed .shaped .limits), c .before .before .before .before .before .before .before .columns-room .ensures) }, s .1, s .2, s .3, length-take-le _ _ (search needs) ∙ s .1)
+
+same-length : tie.Need-same-length
 same-length c = search needs
 
-same-length-2 : tie.Need-same-length-2 Inv-loop μ-loop
+same-length-2 : tie.Need-same-length-2
 same-length-2 c = search needs
 
-same-length-3 : tie.Need-same-length-3 Inv-loop μ-loop
+same-length-3 : tie.Need-same-length-3
 same-length-3 c = search needs
 
-same-length-4 : tie.Need-same-length-4 Inv-loop μ-loop
+same-length-4 : tie.Need-same-length-4
 same-length-4 c = search needs
 
-returns : tie.Need-returns Inv-loop μ-loop
-unfolding gradient
-returns c =
-    let l = c .before .before .before .before .before .before .before .before .before .before .before .before .before .before .loop in
-    let s = c .before .before .before .before .before .before .before .before .before .before .before .before .before .before .before .before .before .before .before .before .before .before .before in
-    (slopes-stop (derivative (jobBy (now (s .args .card)) (s .args .h) (now (s .args .places)) (s .args .c)) (now (s .args .xs)) (s .args .o)) (l .i) (length (now (s .args .places))) (l .g) _ _ (l .inv .5) (c .before .before .before .before .before .before .before .before .before .derivative .ensures) (c .before .d2 .given .1) (omega (arith, c .before .before .before .before .before .before .before .before .before .before .before .before .before .loop-test .taken, s .pre .1)), search needs, search needs, search needs)
-
-add-i : tie.Need-add-i Inv-loop μ-loop
-add-i c = search needs
-
-loop-less : tie.Need-loop-less Inv-loop μ-loop
-loop-less c = search needs
-
-loop-again : tie.Need-loop-again Inv-loop μ-loop
-loop-again c =
-    let l = c .before .before .before .before .before .before .before .before .before .before .before .before .before .before .loop in
-    let s = c .before .before .before .before .before .before .before .before .before .before .before .before .before .before .before .before .before .before .before .before .before .before .before in (
-      omega (arith, c .before .before .before .before .before .before .before .before .before .before .before .before .before .loop-test .taken),
-      search needs,
-      search needs,
-      search needs,
-      search needs,
-      slopes-more (derivative (jobBy (now (s .args .card)) (s .args .h) (now (s .args .places)) (s .args .c)) (now (s .args .xs)) (s .args .o)) (l .i) (l .g) _ _ (l .inv .5) (c .before .before .before .before .before .before .before .before .before .derivative .ensures) (c .before .d .given .1) (omega (arith, c .before .before .before .before .before .before .before .before .before .before .before .before .before .loop-test .taken, l .inv .1, s .pre .1, s .pre .2)),
-    )
-
-same-length-5 : tie.Need-same-length-5 Inv-loop μ-loop
-same-length-5 c = search needs
-
-same-length-6 : tie.Need-same-length-6 Inv-loop μ-loop
-same-length-6 c = search needs
-
-same-length-7 : tie.Need-same-length-7 Inv-loop μ-loop
-same-length-7 c = search needs
-
-same-length-8 : tie.Need-same-length-8 Inv-loop μ-loop
-same-length-8 c = search needs
-
-returns-2 : tie.Need-returns-2 Inv-loop μ-loop
-unfolding gradient
-returns-2 c =
-    let l = c .before .loop in
-    let s = c .before .before .before .before .before .before .before .before .before .before in
-    (slopes-all (derivative (jobBy (now (s .args .card)) (s .args .h) (now (s .args .places)) (s .args .c)) (now (s .args .xs)) (s .args .o)) (l .i) (length (now (s .args .places))) (l .g) (l .inv .5) (omega arith) (search needs), search needs, search needs, search needs)
+returns : tie.Need-returns
+returns c = search needs
 
 pub gradient-spec : {M : Type 1} → statement M
 gradient-spec =
     tie.close
     (tie.spec
-    Inv-loop
-    μ-loop
-    loop-holds
-    derivative-requires
-    enum-known-d
-    mul-g
-    slice-write-g
-    enum-known-d-2
+    model-numbers-requires
+    probe-room-requires
+    model-room-requires
+    columns-room-requires
+    array-borrow-prefix-left
+    slice-aggregate-differentiate
+    array-borrow-prefix-other
+    slice-aggregate-differentiate-2
+    slice-aggregate-differentiate-3
+    differentiate-requires
     same-length
     same-length-2
     same-length-3
     same-length-4
-    returns
-    add-i
-    loop-less
-    loop-again
-    same-length-5
-    same-length-6
-    same-length-7
-    same-length-8
-    returns-2)
+    returns)

@@ -8,14 +8,16 @@ use denote.Ref.{now}
 use lib.ListN.{length, drop}
 use Rattle.lists.proofs.Joined.{Written, written-none, written-part, written-end}
 use Rattle.lists.proofs.Parts.{row-in, row-fits, part-lent, lent-long}
-use Rattle.gate_set.specs.GateSet.{gateIn, columnsOf, columnsIn}
-use Rattle.gate_set.proofs.Columns.{length-columns, length-columns-in}
+use Rattle.matrix.specs.Product.{transposedOf}
+use Rattle.matrix.proofs.Transposes.{length-transposed, transposed-whole}
+use Rattle.gate_set.specs.GateSet.{gateIn, columnsIn}
+use Rattle.gate_set.proofs.Columns.{length-columns-in}
 use borrow.Author.Needs.{needs}
 use Rattle.gate_set.proofs.gates_by_columns.Statement.{statement}
 use Rattle.gate_set.proofs.gates_by_columns.Tie as tie
 
 abbrev Inv-loop : tie.InvT-loop
-Inv-loop model d e gates out₀ m first g₀ out g = (g ≤ gates) × (length out ≡ length out₀) × Written (λ g. columnsOf d (gateIn d e model g)) out₀ g out
+Inv-loop model d e gates out₀ m first g₀ out g = (g ≤ gates) × (length out ≡ length out₀) × Written (λ g. transposedOf d (gateIn d e model g)) out₀ g out
 
 abbrev μ-loop : tie.MeasureT-loop
 μ-loop model d e gates out₀ m first g₀ out g = gates - g
@@ -44,35 +46,35 @@ add-from c = let s = c .before .before .before .before in omega (arith, row-in (
 add-to : tie.Need-add-to Inv-loop μ-loop
 add-to c = let s = c .before .before .before .before in omega (arith, row-in (c .before .loop .g) (s .args .gates) (s .args .d * s .args .d) (c .loop-test .taken))
 
-mul-put-columns : tie.Need-mul-put-columns Inv-loop μ-loop
-mul-put-columns c = let s = c .before .before .before .before in omega (arith, row-in (c .before .loop .g) (s .args .gates) (s .args .d * s .args .d) (c .loop-test .taken))
+mul-transpose : tie.Need-mul-transpose Inv-loop μ-loop
+mul-transpose c = let s = c .before .before .before .before in omega (arith, row-in (c .before .loop .g) (s .args .gates) (s .args .d * s .args .d) (c .loop-test .taken))
 
-sub-put-columns : tie.Need-sub-put-columns Inv-loop μ-loop
-sub-put-columns c = search needs
+sub-transpose : tie.Need-sub-transpose Inv-loop μ-loop
+sub-transpose c = search needs
 
-part-put-columns-start : tie.Need-part-put-columns-start Inv-loop μ-loop
-part-put-columns-start c = search needs
+part-transpose-start : tie.Need-part-transpose-start Inv-loop μ-loop
+part-transpose-start c = search needs
 
-part-put-columns-end : tie.Need-part-put-columns-end Inv-loop μ-loop
-part-put-columns-end c = let s = c .before .before .before .before in omega (arith, row-in (c .before .loop .g) (s .args .gates) (s .args .d * s .args .d) (c .loop-test .taken))
+part-transpose-end : tie.Need-part-transpose-end Inv-loop μ-loop
+part-transpose-end c = let s = c .before .before .before .before in omega (arith, row-in (c .before .loop .g) (s .args .gates) (s .args .d * s .args .d) (c .loop-test .taken))
 
-mul-put-columns-2 : tie.Need-mul-put-columns-2 Inv-loop μ-loop
-mul-put-columns-2 c = let s = c .before .before .before .before .before in omega (arith, row-fits (c .before .before .loop .g) (s .args .gates) (s .args .d * s .args .d) _ (c .before .loop-test .taken) (s .pre .4))
+mul-transpose-2 : tie.Need-mul-transpose-2 Inv-loop μ-loop
+mul-transpose-2 c = let s = c .before .before .before .before .before in omega (arith, row-fits (c .before .before .loop .g) (s .args .gates) (s .args .d * s .args .d) _ (c .before .loop-test .taken) (s .pre .4))
 
-sub-put-columns-2 : tie.Need-sub-put-columns-2 Inv-loop μ-loop
-sub-put-columns-2 c = search needs
+sub-transpose-2 : tie.Need-sub-transpose-2 Inv-loop μ-loop
+sub-transpose-2 c = search needs
 
-part-put-columns-start-2 : tie.Need-part-put-columns-start-2 Inv-loop μ-loop
-part-put-columns-start-2 c = search needs
+part-transpose-start-2 : tie.Need-part-transpose-start-2 Inv-loop μ-loop
+part-transpose-start-2 c = search needs
 
-part-put-columns-end-2 : tie.Need-part-put-columns-end-2 Inv-loop μ-loop
-part-put-columns-end-2 c = let s = c .before .before .before .before .before in omega (arith, row-fits (c .before .before .loop .g) (s .args .gates) (s .args .d * s .args .d) _ (c .before .loop-test .taken) (s .pre .4))
+part-transpose-end-2 : tie.Need-part-transpose-end-2 Inv-loop μ-loop
+part-transpose-end-2 c = let s = c .before .before .before .before .before in omega (arith, row-fits (c .before .before .loop .g) (s .args .gates) (s .args .d * s .args .d) _ (c .before .loop-test .taken) (s .pre .4))
 
-put-columns-requires : tie.Need-put-columns-requires Inv-loop μ-loop
-put-columns-requires c κs =
+transpose-requires : tie.Need-transpose-requires Inv-loop μ-loop
+transpose-requires c κs =
     let s = c .before .before .before .before .before .before in
     let f = row-in (c .before .before .before .loop .g) (s .args .gates) (s .args .d * s .args .d) (c .before .before .loop-test .taken) in
-    (search needs, le-of-eq (sym (lent-long (s .args .d + s .args .e * s .args .d + c .before .before .before .loop .g * (s .args .d * s .args .d)) _ (s .args .d * s .args .d) (now (s .args .model)) refl (omega arith))), lent-long (c .before .before .before .loop .g * (s .args .d * s .args .d)) _ (s .args .d * s .args .d) (c .before .before .before .loop .out) refl (omega arith))
+    (search needs, le-of-eq (sym (lent-long (s .args .d + s .args .e * s .args .d + c .before .before .before .loop .g * (s .args .d * s .args .d)) _ (s .args .d * s .args .d) (now (s .args .model)) refl (omega arith))), le-of-eq (sym (lent-long (c .before .before .before .loop .g * (s .args .d * s .args .d)) _ (s .args .d * s .args .d) (c .before .before .before .loop .out) refl (omega arith))))
 
 add-g : tie.Need-add-g Inv-loop μ-loop
 add-g c = search needs
@@ -82,7 +84,7 @@ loop-less c = search needs
 
 loop-again : tie.Need-loop-again Inv-loop μ-loop
 unfolding columnsIn
-loop-again c = let s = c .before .before .before .before .before .before .before .before .before in (search needs, search needs, written-part _ _ (c .before .before .before .before .before .before .loop .g) (s .args .d * s .args .d) _ _ (c .before .before .before .before .before .before .loop .out) _ (length-columns-in (s .args .d) (s .args .e) (c .before .before .before .before .before .before .loop .g) (now (s .args .model))) refl (length-columns (s .args .d) _) (c .before .before .before .before .before .before .loop .inv .2) (c .before .before .put-columns .ensures ∙ ap (columnsOf (s .args .d)) (part-lent (s .args .d + s .args .e * s .args .d + c .before .before .before .before .before .before .loop .g * (s .args .d * s .args .d)) _ (s .args .d * s .args .d) (now (s .args .model)) refl)))
+loop-again c = let s = c .before .before .before .before .before .before .before .before .before in (search needs, search needs, written-part _ _ (c .before .before .before .before .before .before .loop .g) (s .args .d * s .args .d) _ _ (c .before .before .before .before .before .before .loop .out) _ (length-columns-in (s .args .d) (s .args .e) (c .before .before .before .before .before .before .loop .g) (now (s .args .model))) refl (length-transposed (s .args .d) _) (c .before .before .before .before .before .before .loop .inv .2) (c .before .before .transpose .ensures ∙ transposed-whole (s .args .d) _ _ (lent-long (c .before .before .before .before .before .before .loop .g * (s .args .d * s .args .d)) _ (s .args .d * s .args .d) (c .before .before .before .before .before .before .loop .out) refl (omega (arith, row-fits (c .before .before .before .before .before .before .loop .g) (s .args .gates) (s .args .d * s .args .d) _ (c .before .before .before .before .before .loop-test .taken) (s .pre .4), c .before .before .before .before .before .before .loop .inv .1))) ∙ ap (transposedOf (s .args .d)) (part-lent (s .args .d + s .args .e * s .args .d + c .before .before .before .before .before .before .loop .g * (s .args .d * s .args .d)) _ (s .args .d * s .args .d) (now (s .args .model)) refl)))
 
 same-length : tie.Need-same-length Inv-loop μ-loop
 same-length c = search needs
@@ -105,15 +107,15 @@ gates-by-columns-spec =
     add-end
     add-from
     add-to
-    mul-put-columns
-    sub-put-columns
-    part-put-columns-start
-    part-put-columns-end
-    mul-put-columns-2
-    sub-put-columns-2
-    part-put-columns-start-2
-    part-put-columns-end-2
-    put-columns-requires
+    mul-transpose
+    sub-transpose
+    part-transpose-start
+    part-transpose-end
+    mul-transpose-2
+    sub-transpose-2
+    part-transpose-start-2
+    part-transpose-end-2
+    transpose-requires
     add-g
     loop-less
     loop-again

@@ -8,8 +8,8 @@ use Rattle.lists.specs.Build.{over}
 use lib.Ieee.{Float}
 use denote.Ref.{now}
 use native.Mathlib.Omega.{arith}
-use mathlib.Core.List.{List, []}
-use mathlib.Core.Path.{_≡_, refl, sym, ap, _∙_}
+use mathlib.Core.List.{List}
+use mathlib.Core.Path.{sym, ap, _∙_}
 use borrow.Author.Needs.{needs}
 use Rattle.gauge.proofs.gauge_transform.Statement.{statement}
 use Rattle.gauge.proofs.gauge_transform.Tie as tie

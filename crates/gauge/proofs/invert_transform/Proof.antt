@@ -6,7 +6,7 @@ use lib.Ieee.{Float}
 use denote.Ref.{now}
 use borrow.Author.Tests.{not-true, not-false}
 use mathlib.Core.List.{List}
-use mathlib.Core.Path.{_≡_, refl, sym, ap, _∙_}
+use mathlib.Core.Path.{sym, ap, _∙_}
 use borrow.Author.Needs.{needs}
 use Rattle.gauge.proofs.invert_transform.Statement.{statement}
 use Rattle.gauge.proofs.invert_transform.Tie as tie

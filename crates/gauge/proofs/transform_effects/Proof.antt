@@ -8,7 +8,7 @@ use lib.ListN.{length, length-take, length-drop}
 use denote.Ref.{now}
 use native.Mathlib.Omega.{arith}
 use mathlib.Core.Path.{_≡_, refl}
-use Prim.Native.Nat.{ℕ, _≤_, _-_, _*_}
+use Prim.Native.Nat.{_≤_, _-_}
 use Rattle.gauge.proofs.transform_effects.Statement.{statement}
 use Rattle.gauge.proofs.transform_effects.Tie as tie
 

@@ -3,7 +3,7 @@ use Rattle.gauge.proofs.Gauges.{parts-written}
 use lib.ListN.{length-take, length-drop}
 use denote.Ref.{now}
 use native.Mathlib.Omega.{arith}
-use mathlib.Core.Path.{_≡_, refl, sym}
+use mathlib.Core.Path.{refl, sym}
 use borrow.Author.Needs.{needs}
 use Rattle.gauge.proofs.transform_model.Statement.{statement}
 use Rattle.gauge.proofs.transform_model.Tie as tie

@@ -9,7 +9,7 @@ use lib.ListN.{drop}
 use denote.Ref.{now}
 use native.Mathlib.Omega.{arith}
 use mathlib.Core.List.{List, _++_}
-use mathlib.Core.Path.{_≡_, refl, sym, ap, _∙_}
+use mathlib.Core.Path.{sym, ap, _∙_}
 use borrow.Author.Needs.{needs}
 use Rattle.gauge.proofs.transform_state.Statement.{statement}
 use Rattle.gauge.proofs.transform_state.Tie as tie

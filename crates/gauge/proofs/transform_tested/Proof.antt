@@ -5,7 +5,7 @@ use Rattle.refusal.specs.Verdicts.{finiteOr}
 use Rattle.refusal.specs.declared.Refusal.the-variants.{NonFinite}
 use Rattle.lists.proofs.Parts.{front-again, front-length}
 use denote.Ref.{now}
-use mathlib.Core.Path.{_≡_, sym, ap, _∙_}
+use mathlib.Core.Path.{sym, ap, _∙_}
 use borrow.Author.Needs.{needs}
 use Rattle.gauge.proofs.transform_tested.Statement.{statement}
 use Rattle.gauge.proofs.transform_tested.Tie as tie

@@ -48,7 +48,7 @@ same-length c = search needs
 
 returns-3 : tie.Need-returns-3
 unfolding ofBits
-returns-3 c = none-found (c .before .before .before .before .before .before .before .before .before .before .before .before .args .n) (c .before .before .before .before .before .before .before .before .before .before .before .before .args .threshold) (now (c .before .before .before .before .before .before .before .before .before .before .before .before .args .a)) (c .before .before .before .reduce .result) (c .before .before .before .reduce .last .1 .1 .1 .0) (now (c .before .before .before .before .before .before .before .before .before .before .before .before .args .out)) (not-true _ (c .if3 .taken)) (all-reduced _ (c .before .before .before .before .before .before .before .before .before .before .before .before .args .threshold) _ _ (c .before .before .before .before .before .before .before .before .scale-of .ensures) _ (c .before .before .before .before .before .before .before .if1 .left) (sym (ap not (c .before .before .before .before .before .before .is-finite .ensures)) ∙ c .before .before .before .before .before .if2 .left) (c .before .before .before .reduce .ensures))
+returns-3 c = none-found (c .before .before .before .before .before .before .before .before .before .before .before .before .args .n) (c .before .before .before .before .before .before .before .before .before .before .before .before .args .threshold) (now (c .before .before .before .before .before .before .before .before .before .before .before .before .args .a)) (c .before .before .before .reduce .result) (c .before .before .before .reduce .last .1 .1 .1 .0) (now (c .before .before .before .before .before .before .before .before .before .before .before .before .args .out)) (not-true _ (c .if3 .taken)) (all-reduced _ (c .before .before .before .before .before .before .before .before .before .before .before .before .args .threshold) _ _ (c .before .before .before .before .before .before .before .before .scale-of .ensures) _ _ (c .before .before .before .before .before .before .before .if1 .left) (sym (ap not (c .before .before .before .before .before .before .is-finite .ensures)) ∙ c .before .before .before .before .before .if2 .left) (c .before .before .before .reduce .ensures))
 
 slice-reshare-prefix-right-halves : tie.Need-slice-reshare-prefix-right-halves
 slice-reshare-prefix-right-halves c = search needs
@@ -67,7 +67,7 @@ same-length-3 c = search needs
 
 returns-4 : tie.Need-returns-4
 unfolding ofBits
-returns-4 c = one-found (c .before .before .before .before .before .before .before .before .before .before .before .before .before .before .before .before .before .args .n) (c .before .before .before .before .before .before .before .before .before .before .before .before .before .before .before .before .before .args .threshold) (now (c .before .before .before .before .before .before .before .before .before .before .before .before .before .before .before .before .before .args .a)) (c .before .before .before .before .before .before .before .before .reduce .result) (c .before .before .before .before .before .before .before .before .reduce .last .1 .1 .1 .0) _ (now (c .before .before .before .before .before .before .before .before .before .before .before .before .before .before .before .before .before .args .out)) _ _ (not-false _ (c .before .before .before .before .before .if3 .left)) (c .before .before .before .before .before .before .before .before .reduce .kept .1 .1 .1 .0 ∙ length-take-le _ _ (c .before .before .before .before .before .before .before .before .before .before .before .before .before .before .before .before .before .pre .2)) (all-reduced _ (c .before .before .before .before .before .before .before .before .before .before .before .before .before .before .before .before .before .args .threshold) _ _ (c .before .before .before .before .before .before .before .before .before .before .before .before .before .scale-of .ensures) _ (c .before .before .before .before .before .before .before .before .before .before .before .before .if1 .left) (sym (ap not (c .before .before .before .before .before .before .before .before .before .before .before .is-finite .ensures)) ∙ c .before .before .before .before .before .before .before .before .before .before .if2 .left) (c .before .before .before .before .before .before .before .before .reduce .ensures)) (c .before .before .right-halves .ensures)
+returns-4 c = one-found (c .before .before .before .before .before .before .before .before .before .before .before .before .before .before .before .before .before .args .n) (c .before .before .before .before .before .before .before .before .before .before .before .before .before .before .before .before .before .args .threshold) (now (c .before .before .before .before .before .before .before .before .before .before .before .before .before .before .before .before .before .args .a)) (c .before .before .before .before .before .before .before .before .reduce .result) (c .before .before .before .before .before .before .before .before .reduce .last .1 .1 .1 .0) _ (now (c .before .before .before .before .before .before .before .before .before .before .before .before .before .before .before .before .before .args .out)) _ _ (not-false _ (c .before .before .before .before .before .if3 .left)) (c .before .before .before .before .before .before .before .before .reduce .kept .1 .1 .1 .0 ∙ length-take-le _ _ (c .before .before .before .before .before .before .before .before .before .before .before .before .before .before .before .before .before .pre .2)) (all-reduced _ (c .before .before .before .before .before .before .before .before .before .before .before .before .before .before .before .before .before .args .threshold) _ _ (c .before .before .before .before .before .before .before .before .before .before .before .before .before .scale-of .ensures) _ _ (c .before .before .before .before .before .before .before .before .before .before .before .before .if1 .left) (sym (ap not (c .before .before .before .before .before .before .before .before .before .before .before .is-finite .ensures)) ∙ c .before .before .before .before .before .before .before .before .before .before .if2 .left) (c .before .before .before .before .before .before .before .before .reduce .ensures)) (c .before .before .right-halves .ensures)
 
 pub invert-within-spec : {M : Type 1} → statement M
 invert-within-spec =

@@ -1,17 +1,17 @@
 -- `inversion::reduce` meets its contract. Assumes nothing.
 use Prim.Native.Nat.{_≤_, _-_}
-use mathlib.Core.Path.{_≡_, ap, _∙_}
+use mathlib.Core.Path.{_≡_}
 use native.Mathlib.Omega.{arith}
 use lib.ListN.{length}
 use Rattle.lists.specs.Fold.{fold}
-use Rattle.lists.proofs.Folding.{fold-none, fold-more, fold-end}
-use Rattle.inversion.specs.Inversion.{besideIdentity, rows, columnReduced, reductionIn}
+use Rattle.inversion.specs.Inversion.{besideIdentity, rows, columnReduced, Stands}
+use Rattle.inversion.proofs.Reductions.{stands-first, stands-next, stands-last}
 use borrow.Author.Needs.{needs}
 use Rattle.inversion.proofs.reduce.Statement.{statement}
 use Rattle.inversion.proofs.reduce.Tie as tie
 
 abbrev Inv-loop : tie.InvT-loop
-Inv-loop a n limit work₀ going₀ k₀ work going k = (k ≤ n) × (length work ≡ length work₀) × (reductionIn going work ≡ fold k (columnReduced n limit) (rows (besideIdentity n a)))
+Inv-loop a n limit work₀ going₀ k₀ work going k = (k ≤ n) × (length work ≡ length work₀) × Stands n k going work (fold k (columnReduced n limit) (rows (besideIdentity n a)))
 
 abbrev μ-loop : tie.MeasureT-loop
 μ-loop a n limit work₀ going₀ k₀ work going k = n - k
@@ -20,7 +20,7 @@ beside-identity-requires : tie.Need-beside-identity-requires Inv-loop μ-loop
 beside-identity-requires c κs = search needs
 
 loop-holds : tie.Need-loop-holds Inv-loop μ-loop
-loop-holds c = (search needs, search needs, ap rows (c .before .before .beside-identity .ensures) ∙ fold-none _ _)
+loop-holds c = (search needs, search needs, stands-first _ _ _ _ (c .before .before .beside-identity .ensures))
 
 reduce-column-requires : tie.Need-reduce-column-requires Inv-loop μ-loop
 reduce-column-requires c κs = search needs
@@ -32,13 +32,13 @@ loop-less : tie.Need-loop-less Inv-loop μ-loop
 loop-less c = search needs
 
 loop-again : tie.Need-loop-again Inv-loop μ-loop
-loop-again c = (search needs, search needs, fold-more _ _ _ _ _ (c .before .before .before .before .before .loop .inv .2) (c .before .before .reduce-column .ensures))
+loop-again c = (search needs, search needs, stands-next _ _ _ _ _ _ (c .before .before .reduce-column .ensures _ (c .before .before .before .before .before .loop .inv .2)))
 
 same-length : tie.Need-same-length Inv-loop μ-loop
 same-length c = search needs
 
 returns : tie.Need-returns Inv-loop μ-loop
-returns c = fold-end _ _ _ _ _ (omega arith) (c .before .loop .inv .2)
+returns c = stands-last _ _ _ _ _ _ (omega arith) (c .before .loop .inv .2)
 
 pub reduce-spec : {M : Type 1} → statement M
 reduce-spec =

@@ -22,7 +22,10 @@ same-length : tie.Need-same-length
 same-length c = search needs
 
 returns-2 : tie.Need-returns-2
-returns-2 c = ends-here (c .before .before .before .before .before .before .before .args .n) (c .before .before .before .before .before .before .before .args .limit) (c .before .before .before .before .before .before .before .args .k) (now (c .before .before .before .before .before .before .before .args .work)) (c .before .before .before .before .before .before .before .args .going) _ _ (not-false _ (c .before .before .before .before .before .if1 .left)) (c .before .before .before .pivot-row .ensures .0) (c .before .size-at .ensures) (c .if2 .taken)
+returns-2 c =
+    let o = c .before .before .before .before .before .before .before in
+    let z = o .args in
+    ends-here (z .n) (z .limit) (z .k) (now (z .work)) (z .going) _ _ (not-false _ (c .before .before .before .before .before .if1 .left)) (o .pre .1) (c .before .before .before .pivot-row .ensures .1) (c .before .before .before .pivot-row .ensures .0) (c .before .size-at .ensures) (c .if2 .taken)
 
 clear-column-requires : tie.Need-clear-column-requires
 clear-column-requires c κs = search needs
@@ -31,7 +34,10 @@ same-length-2 : tie.Need-same-length-2
 same-length-2 c = search needs
 
 returns-3 : tie.Need-returns-3
-returns-3 c = goes-on (c .before .before .before .before .before .before .before .before .before .before .before .args .n) (c .before .before .before .before .before .before .before .before .before .before .before .args .limit) (c .before .before .before .before .before .before .before .before .before .before .before .args .k) (now (c .before .before .before .before .before .before .before .before .before .before .before .args .work)) (c .before .before .before .before .before .before .before .before .before .before .before .args .going) _ _ _ (not-false _ (c .before .before .before .before .before .before .before .before .before .if1 .left)) (c .before .before .before .before .before .before .before .pivot-row .ensures .0) (c .before .before .before .before .before .size-at .ensures) (c .before .before .before .before .if2 .left) (c .before .before .clear-column .ensures)
+returns-3 c =
+    let o = c .before .before .before .before .before .before .before .before .before .before .before in
+    let z = o .args in
+    goes-on (z .n) (z .limit) (z .k) (now (z .work)) (z .going) _ _ (not-false _ (c .before .before .before .before .before .before .before .before .before .if1 .left)) (o .pre .1) (c .before .before .before .before .before .before .before .pivot-row .ensures .1) (c .before .before .before .before .before .before .before .pivot-row .ensures .0) (c .before .before .before .before .before .size-at .ensures) _ (c .before .before .before .before .if2 .left) (c .before .before .clear-column .ensures)
 
 pub reduce-column-spec : {M : Type 1} → statement M
 reduce-column-spec =

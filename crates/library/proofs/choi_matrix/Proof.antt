@@ -1,5 +1,6 @@
 -- `library::choi_matrix` meets its contract. Assumes nothing.
-use Rattle.library.proofs.Entries.{parts-two, choi-few, choi-numbers, entry-refused, entry-shown}
+use Rattle.choi.proofs.Places.{parts-most}
+use Rattle.library.proofs.Entries.{choi-few, choi-numbers, entry-refused, entry-shown}
 use Rattle.library.specs.Entries.{choiEntry}
 use Rattle.outcome.proofs.Outcomes.{stays, crowded, room-for, emitted}
 use Rattle.outcome.specs.declared.Answer.the-variants.{Choi}
@@ -50,7 +51,7 @@ mul-emit c = search needs
 emit-requires : tie.Need-emit-requires
 emit-requires c κs =
     let r = room-for _ _ (sym (c .before .before .before .before .before .before .before .before .before .before .before .has-room .ensures) ∙ not-false _ (c .before .before .before .before .before .before .before .before .before .before .if1 .left)) in
-    let h = parts-two _ (choi-few _ _ (sym (c .before .before .before .before .enum-told .given .1) ∙ c .before .before .before .before .before .before .before .before .choi-within .ensures .0)) in
+    let h = parts-most _ (choi-few _ _ (sym (c .before .before .before .before .enum-told .given .1) ∙ c .before .before .before .before .before .before .before .before .choi-within .ensures .0)) in
     let q = c .before .square .ensures .0 ∙ ap₂ _*_ (c .before .before .before .four-to .ensures .0) (c .before .before .before .four-to .ensures .0) in
     (omega (arith, h, q, r .1), omega (arith, h, q, r .0))
 

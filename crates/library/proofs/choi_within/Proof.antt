@@ -1,5 +1,6 @@
 -- `library::choi_within` meets its contract. Assumes nothing.
-use Rattle.library.proofs.Entries.{some, few, parts-two, choi-refused, choi-goes-on}
+use Rattle.choi.proofs.Places.{parts-most}
+use Rattle.library.proofs.Entries.{some, few, choi-refused, choi-goes-on}
 use Rattle.lists.specs.Build.{over}
 use native.Mathlib.Omega.{arith}
 use denote.Ref.{now}
@@ -22,7 +23,7 @@ enum-told c = search needs
 normalized-choi-requires : tie.Need-normalized-choi-requires
 normalized-choi-requires c κs =
     let g = sym (c .before .enum-told .given .1) ∙ c .before .before .before .check-qubits .ensures in
-    (some 2 _ g, few 2 _ g, omega (arith, parts-two _ (few 2 _ g), c .before .before .before .before .before .before .pre))
+    (some 2 _ g, few 2 _ g, omega (arith, parts-most _ (few 2 _ g), c .before .before .before .before .before .before .pre))
 
 returns : tie.Need-returns
 returns c =

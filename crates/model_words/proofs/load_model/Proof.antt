@@ -1,5 +1,5 @@
 -- `model_words::load_model` meets its contract. Assumes nothing.
-use mathlib.Core.Path.{_≡_, refl}
+use mathlib.Core.Path.{refl}
 use native.Mathlib.Omega.{arith}
 use denote.Ref.{now}
 use Rattle.card_places.proofs.Within.{model-in}

@@ -7,8 +7,8 @@ use Rattle.lists.specs.Build.{over}
 use native.Mathlib.Omega.{arith}
 use denote.Ref.{now}
 use Prim.Native.Nat.{ℕ}
-use mathlib.Core.List.{List, _∷_}
-use mathlib.Core.Path.{_≡_, refl, ap, ap₂, _∙_}
+use mathlib.Core.List.{_∷_}
+use mathlib.Core.Path.{refl, ap₂, _∙_}
 use borrow.Author.Needs.{needs}
 use Rattle.model_words.proofs.put_gate.Statement.{statement}
 use Rattle.model_words.proofs.put_gate.Tie as tie

@@ -7,9 +7,8 @@ use Rattle.lists.proofs.Parts.{row-fits}
 use lib.ListN.{length, drop, length-take, length-drop}
 use denote.Ref.{now}
 use native.Mathlib.Omega.{arith}
-use Prim.Native.Nat.{ℕ, _+_, _-_, _*_, _≤_}
-use mathlib.Core.List.{List}
-use mathlib.Core.Path.{_≡_, refl, sym, ap, _∙_}
+use Prim.Native.Nat.{_+_, _-_, _*_, _≤_}
+use mathlib.Core.Path.{_≡_, refl, ap, _∙_}
 use Rattle.model_words.proofs.put_gates.Statement.{statement}
 use Rattle.model_words.proofs.put_gates.Tie as tie
 

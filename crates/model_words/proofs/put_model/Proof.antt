@@ -1,7 +1,7 @@
 -- `model_words::put_model` meets its contract. Assumes nothing.
 use Rattle.model_words.proofs.Sizes.{model-written}
 use denote.Ref.{now}
-use mathlib.Core.Path.{_≡_, refl, sym, ap, _∙_}
+use mathlib.Core.Path.{refl}
 use borrow.Author.Needs.{needs}
 use Rattle.model_words.proofs.put_model.Statement.{statement}
 use Rattle.model_words.proofs.put_model.Tie as tie

@@ -1,6 +1,5 @@
 -- `model_words::vector_numbers` meets its contract. Assumes nothing.
 use mathlib.Core.Path.{refl}
-use Prim.Native.Nat.{ℕ, _*_, _≤_}
 use Rattle.sizes.proofs.Small.{product-le}
 use native.Mathlib.Omega.{arith}
 use Rattle.model_words.proofs.vector_numbers.Statement.{statement}

@@ -1,69 +1,37 @@
 -- `numbers::load` meets its contract. Assumes nothing.
-use Prim.Native.Nat.{_≤_, _-_, _+_}
 use mathlib.Core.Path.{_≡_, ap, _∙_}
+use mathlib.Core.List.{_++_}
+use Prim.Native.Nat.{ℕ, _/_, _*_}
 use native.Mathlib.Omega.{arith}
-use lib.ListN.{length}
-use Rattle.lists.proofs.Filling.{Filled, fill-none, fill-more, fill-end}
-use Rattle.numbers.specs.Number.{number}
-use Rattle.numbers.specs.Slice.{numberAt, numbersAt}
+use denote.Ref.{now}
+use lib.ListN.{drop}
+use Rattle.numbers.specs.Slice.{numbersAt}
 use borrow.Author.Needs.{needs}
 use Rattle.numbers.proofs.load.Statement.{statement}
 use Rattle.numbers.proofs.load.Tie as tie
 
-abbrev Inv-loop : tie.InvT-loop
-Inv-loop card from n out₀ i₀ out i = (i ≤ n) × (length out ≡ length out₀) × Filled (λ k. numberAt card (from + k)) out₀ i out
+load-fours-requires : tie.Need-load-fours-requires
+load-fours-requires c κs = search needs
 
-abbrev μ-loop : tie.MeasureT-loop
-μ-loop card from n out₀ i₀ out i = n - i
-
-loop-holds : tie.Need-loop-holds Inv-loop μ-loop
-loop-holds c = (search needs, search needs, fill-none _ _)
-
-add-word-at : tie.Need-add-word-at Inv-loop μ-loop
-add-word-at c = search needs
-
-word-at-requires : tie.Need-word-at-requires Inv-loop μ-loop
-word-at-requires c κs = search needs
-
-number-of-requires : tie.Need-number-of-requires Inv-loop μ-loop
-number-of-requires c κs = search needs
-
-mul-out : tie.Need-mul-out Inv-loop μ-loop
-mul-out c = search needs
-
-slice-write-out : tie.Need-slice-write-out Inv-loop μ-loop
-slice-write-out c = search needs
-
-add-i : tie.Need-add-i Inv-loop μ-loop
-add-i c = search needs
-
-loop-less : tie.Need-loop-less Inv-loop μ-loop
-loop-less c = search needs
-
-loop-again : tie.Need-loop-again Inv-loop μ-loop
-loop-again c = (search needs, search needs, fill-more _ _ _ _ _ (search needs) (c .before .before .before .loop .inv .2) (c .number-of .ensures ∙ ap number (c .before .word-at .ensures)))
-
-same-length : tie.Need-same-length Inv-loop μ-loop
+same-length : tie.Need-same-length
 same-length c = search needs
 
-returns : tie.Need-returns Inv-loop μ-loop
-unfolding numbersAt
-returns c = fill-end _ _ _ _ _ (omega arith) (c .before .loop .inv .2)
+returns : tie.Need-returns
+returns c =
+    let z = c .before .before .before .before .before .before .before .args in
+    let h : z .n / 4 * 4 ≡ z .n = omega (arith, c .before .before .before .before .if1 .taken) in
+    c .before .before .load-fours .ensures ∙ ap (λ (k : ℕ). numbersAt (now (z .card)) (z .from) k ++ drop k (now (z .out))) h
+
+load-each-requires : tie.Need-load-each-requires
+load-each-requires c κs = search needs
+
+same-length-2 : tie.Need-same-length-2
+same-length-2 c = search needs
+
+returns-2 : tie.Need-returns-2
+returns-2 c = search needs
 
 pub load-spec : {M : Type 1} → statement M
 load-spec =
     tie.close
-    (tie.spec
-    Inv-loop
-    μ-loop
-    loop-holds
-    add-word-at
-    word-at-requires
-    number-of-requires
-    mul-out
-    slice-write-out
-    add-i
-    loop-less
-    loop-again
-    same-length
-    returns)
+    (tie.spec load-fours-requires same-length returns load-each-requires same-length-2 returns-2)

@@ -1,6 +1,7 @@
 -- `physical::is_near_unit` meets its contract. Assumes nothing.
 use borrow.Author.Needs.{needs}
-use Rattle.physical.proofs.Units.{step-in, square-small, near-none, near-more, near-end}
+use Rattle.sizes.proofs.Small.{square-most}
+use Rattle.physical.proofs.Units.{step-in, near-none, near-more, near-end}
 use Rattle.physical.specs.Physical.{nearUnit}
 use Rattle.numbers.specs.Slice.{at}
 use native.Mathlib.Omega.{arith}
@@ -19,10 +20,10 @@ loop-holds : tie.Need-loop-holds Inv-loop μ-loop
 loop-holds c = (search needs, near-none _ _)
 
 mul-is-near : tie.Need-mul-is-near Inv-loop μ-loop
-mul-is-near c = omega (arith, step-in (c .before .loop .k) (c .before .before .before .args .p) (c .before .before .before .args .step) (search needs) (search needs), square-small (c .before .before .before .args .p) (search needs))
+mul-is-near c = omega (arith, step-in (c .before .loop .k) (c .before .before .before .args .p) (c .before .before .before .args .step) (search needs) (search needs), square-most (c .before .before .before .args .p) (search needs))
 
 mul-is-near-2 : tie.Need-mul-is-near-2 Inv-loop μ-loop
-mul-is-near-2 c = omega (arith, step-in (c .before .loop .k) (c .before .before .before .args .p) (c .before .before .before .args .step) (search needs) (search needs), square-small (c .before .before .before .args .p) (search needs))
+mul-is-near-2 c = omega (arith, step-in (c .before .loop .k) (c .before .before .before .args .p) (c .before .before .before .args .step) (search needs) (search needs), square-most (c .before .before .before .args .p) (search needs))
 
 shared-slice-read-is-near : tie.Need-shared-slice-read-is-near Inv-loop μ-loop
 shared-slice-read-is-near c = omega (arith, step-in (c .before .before .loop .k) (c .before .before .before .before .args .p) (c .before .before .before .before .args .step) (search needs) (search needs))

@@ -4,7 +4,6 @@ use Rattle.lists.specs.Fold.{fold}
 use Rattle.lists.proofs.Folding.{fold-none, fold-more, fold-end}
 use Rattle.numbers.specs.Slice.{at}
 use lib.Ieee.{le}
-use lib.ListN.{length}
 use native.Mathlib.Omega.{arith}
 use Prim.Native.Nat.{_≤_, _-_}
 use mathlib.Core.Bool.{true, _&&_}

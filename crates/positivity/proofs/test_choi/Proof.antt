@@ -1,5 +1,6 @@
 -- `positivity::test_choi` meets its contract. Assumes nothing.
-use Rattle.positivity.proofs.Found.{size-most, rows-in, choi-fits, choi-length, choi-front, choi-refused, choi-good}
+use Rattle.choi.proofs.Places.{parts-most}
+use Rattle.positivity.proofs.Found.{rows-in, choi-fits, choi-length, choi-front, choi-refused, choi-good}
 use native.Mathlib.Omega.{arith}
 use Prim.Native.Nat.{ℕ, _*_}
 use mathlib.Core.Path.{sym, ap, _∙_}
@@ -23,7 +24,7 @@ slice-aggregate-normalized-choi : tie.Need-slice-aggregate-normalized-choi
 slice-aggregate-normalized-choi c = search needs
 
 normalized-choi-requires : tie.Need-normalized-choi-requires
-normalized-choi-requires c κs = let s = c .before .before .before .before .before .pre in (s .0, s .1, omega (arith, size-most _ (s .1), c .before .matrix-room .ensures))
+normalized-choi-requires c κs = let s = c .before .before .before .before .before .pre in (s .0, s .1, omega (arith, parts-most _ (s .1), c .before .matrix-room .ensures))
 
 enum-known-found : tie.Need-enum-known-found
 enum-known-found c = search needs

@@ -3,7 +3,8 @@ use mathlib.Core.Path.{_≡_, refl}
 use mathlib.Core.Bool.{true, false, _||_}
 use lib.Dec.{ltb}
 use Rattle.lists.proofs.Choices.{yes, no}
-use Rattle.sequences.specs.Sequences.{limitsOf}
+use Rattle.card_layout.specs.Limits.{limitsOf}
+use Rattle.sequences.specs.Sequences.{limitsVerdict}
 use borrow.Author.Needs.{needs}
 use Rattle.sequences.proofs.check_limits.Statement.{statement}
 use Rattle.sequences.proofs.check_limits.Tie as tie
@@ -30,14 +31,14 @@ either-requires-3 : tie.Need-either-requires-3
 either-requires-3 c κs = search needs
 
 returns : tie.Need-returns
-unfolding limitsOf
+unfolding limitsVerdict limitsOf
 returns c =
     let s = c .before .before .before .before .before .before .before .before .args in
     let t : (ltb 16 (s .d) || (ltb 16 (s .effects) || (ltb 8 (s .gates) || ltb 64 (s .n)))) ≡ true = cc in
     yes _ t
 
 returns-2 : tie.Need-returns-2
-unfolding limitsOf
+unfolding limitsVerdict limitsOf
 returns-2 c =
     let s = c .before .before .before .before .before .before .before .before .args in
     let t : (ltb 16 (s .d) || (ltb 16 (s .effects) || (ltb 8 (s .gates) || ltb 64 (s .n)))) ≡ false = cc in

@@ -2,11 +2,10 @@
 use Rattle.sheets.proofs.Shown.{new-model, length-new-model, words-most, gauge-refused, gauge-shown}
 use Rattle.sheets.specs.Sheets.{gaugeNumbers}
 use Rattle.outcome.proofs.Outcomes.{stays}
-use Rattle.gauge.specs.Gauge.{newModel}
 use Rattle.lists.proofs.Parts.{front-again, front-length}
 use denote.Ref.{now}
 use native.Mathlib.Omega.{arith}
-use mathlib.Core.Path.{_≡_, sym, ap, _∙_}
+use mathlib.Core.Path.{sym, _∙_}
 use borrow.Author.Needs.{needs}
 use Rattle.sheets.proofs.gauge_sheet.Statement.{statement}
 use Rattle.sheets.proofs.gauge_sheet.Tie as tie

@@ -2,16 +2,14 @@
 use Rattle.sheets.proofs.Shown.{two-most}
 use Rattle.pauli.specs.Density.{invertedOf, computedOf}
 use Rattle.numbers.proofs.Slices.{length-numbers}
-use Rattle.numbers.specs.Slice.{numberAt, numbersAt}
+use Rattle.numbers.specs.Slice.{numbersAt}
 use Rattle.lists.proofs.Parts.{front-again, front-length}
 use Rattle.lists.specs.Build.{over}
 use lib.Ieee.{Float}
-use lib.ListN.{drop}
 use denote.Ref.{now}
 use native.Mathlib.Omega.{arith}
-use Prim.Native.Nat.{ℕ, _^_}
 use mathlib.Core.List.{List}
-use mathlib.Core.Path.{_≡_, sym, ap, ap₂, _∙_}
+use mathlib.Core.Path.{sym, ap, ap₂, _∙_}
 use borrow.Author.Needs.{needs}
 use Rattle.sheets.proofs.invert_density.Statement.{statement}
 use Rattle.sheets.proofs.invert_density.Tie as tie

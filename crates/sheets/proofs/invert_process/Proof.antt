@@ -2,7 +2,7 @@
 use Rattle.sizes.proofs.Small.{square-most}
 use Rattle.transfer.specs.Process.{processOf, processNumbers}
 use Rattle.numbers.proofs.Slices.{length-numbers}
-use Rattle.numbers.specs.Slice.{numberAt, numbersAt}
+use Rattle.numbers.specs.Slice.{numbersAt}
 use Rattle.lists.proofs.Parts.{front-again, front-fits, front-length}
 use Rattle.lists.specs.Build.{over}
 use lib.Ieee.{Float}
@@ -10,7 +10,7 @@ use denote.Ref.{now}
 use native.Mathlib.Omega.{arith}
 use Prim.Native.Nat.{ℕ, _*_}
 use mathlib.Core.List.{List}
-use mathlib.Core.Path.{_≡_, sym, ap, ap₂, _∙_}
+use mathlib.Core.Path.{sym, ap, ap₂, _∙_}
 use borrow.Author.Needs.{needs}
 use Rattle.sheets.proofs.invert_process.Statement.{statement}
 use Rattle.sheets.proofs.invert_process.Tie as tie

@@ -4,11 +4,10 @@ use Rattle.sizes.proofs.Small.{four-some, four-most}
 use Rattle.lists.specs.Build.{over}
 use Rattle.sheets.specs.Sheets.{transferNumbers}
 use Rattle.outcome.proofs.Outcomes.{stays}
-use lib.ListN.{length}
 use denote.Ref.{now}
 use native.Mathlib.Omega.{arith}
-use Prim.Native.Nat.{ℕ, _+_, _*_, _^_, _≤_}
-use mathlib.Core.Path.{_≡_, sym, ap, _∙_}
+use Prim.Native.Nat.{ℕ}
+use mathlib.Core.Path.{ap, _∙_}
 use borrow.Author.Needs.{needs}
 use Rattle.sheets.proofs.process_sheet.Statement.{statement}
 use Rattle.sheets.proofs.process_sheet.Tie as tie

@@ -6,7 +6,7 @@ use Rattle.lists.proofs.Parts.{front-again, front-length}
 use denote.Ref.{now}
 use native.Mathlib.Omega.{arith}
 use Prim.Native.Nat.{ℕ, _*_}
-use mathlib.Core.Path.{_≡_, sym, ap, _∙_}
+use mathlib.Core.Path.{sym, ap, _∙_}
 use borrow.Author.Needs.{needs}
 use Rattle.sheets.proofs.project.Statement.{statement}
 use Rattle.sheets.proofs.project.Tie as tie

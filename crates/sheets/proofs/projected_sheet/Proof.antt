@@ -3,7 +3,6 @@ use Rattle.sheets.proofs.Shown.{estimate-most, projected-refused, proje
 use Rattle.outcome.proofs.Outcomes.{stays}
 use denote.Ref.{now}
 use native.Mathlib.Omega.{arith}
-use mathlib.Core.Path.{_≡_}
 use borrow.Author.Needs.{needs}
 use Rattle.sheets.proofs.projected_sheet.Statement.{statement}
 use Rattle.sheets.proofs.projected_sheet.Tie as tie

@@ -1,12 +1,11 @@
 -- `sheets::transform` meets its contract. Assumes nothing.
 use Rattle.sheets.proofs.Shown.{model-refused, model-good, numbers-most}
-use Rattle.sizes.proofs.Small.{product-le}
 use Rattle.lists.specs.Build.{over}
 use lib.Ieee.{Float}
 use denote.Ref.{now}
 use native.Mathlib.Omega.{arith}
 use mathlib.Core.List.{List}
-use mathlib.Core.Path.{_≡_, ap, _∙_}
+use mathlib.Core.Path.{ap, _∙_}
 use borrow.Author.Needs.{needs}
 use Rattle.sheets.proofs.transform.Statement.{statement}
 use Rattle.sheets.proofs.transform.Tie as tie

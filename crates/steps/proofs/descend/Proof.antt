@@ -2,25 +2,12 @@
 use mathlib.Core.Path.{sym}
 use native.Mathlib.Omega.{arith}
 use denote.Ref.{now}
-use lib.ListN.{length, take}
 use lib.Seq.{length-take-le}
 use Rattle.evaluation.specs.Job.{jobBy}
-use Rattle.evaluation.proofs.Slopes.{norm-by}
 use Rattle.steps.proofs.Stepping.{found-few, level, stalled, lost, accepted}
 use borrow.Author.Needs.{needs}
 use Rattle.steps.proofs.descend.Statement.{statement}
 use Rattle.steps.proofs.descend.Tie as tie
-
-array-share-prefix-g : tie.Need-array-share-prefix-g
-array-share-prefix-g c = search needs
-
-slice-aggregate-norm : tie.Need-slice-aggregate-norm
-slice-aggregate-norm c =
-    let s = c .before .before .before .before .before .before in
-    sym (length-take-le _ _ (omega (arith, s .pre .0 .placed .few, s .pre .3)))
-
-norm-requires : tie.Need-norm-requires
-norm-requires c κs = search needs
 
 mul-n : tie.Need-mul-n
 mul-n c = search needs
@@ -30,11 +17,9 @@ with-status-requires c κs = search needs
 
 returns : tie.Need-returns
 returns c =
-    let s = c .before .before .before .before .before .before .before .before .before .before in
+    let s = c .before .before .before .before .before .before .before .before in
     let J = jobBy (now (s .args .card)) (s .args .h) (now (s .args .places)) (s .args .c) in
-    let g = take (length (now (s .args .places))) (s .args .t7) in
-    let n = norm-by J g _ (length-take-le _ _ (omega (arith, s .pre .0 .placed .few, s .pre .3))) (c .before .before .before .norm .ensures) in
-    level J (s .args .r) _ (s .pre .2) g _ (s .pre .4) n (s .pre .0 .placed .few) (s .pre .1) (c .before .if1 .taken) (c .with-status .ensures)
+    level J (s .args .r) _ (s .pre .2) _ _ (s .pre .4) (s .pre .0 .placed .few) (s .pre .1) (c .before .if1 .taken) (c .with-status .ensures)
 
 room-requires : tie.Need-room-requires
 room-requires c κs = search needs
@@ -44,15 +29,15 @@ array-share-prefix-x c = search needs
 
 slice-aggregate-search : tie.Need-slice-aggregate-search
 slice-aggregate-search c =
-    let s = c .before .before .before .before .before .before .before .before .before .before .before .before in
+    let s = c .before .before .before .before .before .before .before .before .before .before in
     sym (length-take-le _ _ (omega (arith, s .pre .0 .placed .few, s .pre .2 .room)))
 
-array-share-prefix-g-2 : tie.Need-array-share-prefix-g-2
-array-share-prefix-g-2 c = search needs
+array-share-prefix-g : tie.Need-array-share-prefix-g
+array-share-prefix-g c = search needs
 
 slice-aggregate-search-2 : tie.Need-slice-aggregate-search-2
 slice-aggregate-search-2 c =
-    let s = c .before .before .before .before .before .before .before .before .before .before .before .before .before in
+    let s = c .before .before .before .before .before .before .before .before .before .before .before in
     sym (length-take-le _ _ (omega (arith, s .pre .0 .placed .few, s .pre .3)))
 
 array-borrow-prefix-t : tie.Need-array-borrow-prefix-t
@@ -60,12 +45,12 @@ array-borrow-prefix-t c = search needs
 
 slice-aggregate-search-3 : tie.Need-slice-aggregate-search-3
 slice-aggregate-search-3 c =
-    let s = c .before .before .before .before .before .before .before .before .before .before .before .before .before .before in
+    let s = c .before .before .before .before .before .before .before .before .before .before .before .before in
     sym (length-take-le _ _ (omega (arith, s .pre .0 .placed .few, c .before .before .before .room .ensures)))
 
 search-requires : tie.Need-search-requires
 search-requires c κs =
-    let s = c .before .before .before .before .before .before .before .before .before .before .before .before .before .before .before .before in
+    let s = c .before .before .before .before .before .before .before .before .before .before .before .before .before .before in
     (s .pre .0, length-take-le _ _ (omega (arith, s .pre .0 .placed .few, s .pre .2 .room)), length-take-le _ _ (omega (arith, s .pre .0 .placed .few, s .pre .3)), length-take-le _ _ (omega (arith, s .pre .0 .placed .few, c .before .before .before .before .before .room .ensures)), s .pre .1)
 
 enum-told : tie.Need-enum-told
@@ -73,12 +58,12 @@ enum-told c = search needs
 
 add-with-status : tie.Need-add-with-status
 add-with-status c =
-    let s = c .before .before .before .before .before .before .before .before .before .before .before .before .before .before .before .before .before .before .before .before .before .before .before .before .before in
+    let s = c .before .before .before .before .before .before .before .before .before .before .before .before .before .before .before .before .before .before .before .before .before .before .before in
     record { fits = omega (arith, s .pre .0 .placed .few, s .pre .1) }
 
 with-status-requires-2 : tie.Need-with-status-requires-2
 with-status-requires-2 c κs =
-    let s = c .before .before .before .before .before .before .before .before .before .before .before .before .before .before .before .before .before .before .before .before .before .before .before .before .before in
+    let s = c .before .before .before .before .before .before .before .before .before .before .before .before .before .before .before .before .before .before .before .before .before .before .before in
     (s .pre .2 .evaluations, omega (arith, s .pre .0 .placed .few, s .pre .1))
 
 enum-known-found : tie.Need-enum-known-found
@@ -86,19 +71,19 @@ enum-known-found c = search needs
 
 add-moved : tie.Need-add-moved
 add-moved c =
-    let s = c .before .before .before .before .before .before .before .before .before .before .before .before .before .before .before .before .before .before .before .before .before .before .before .before .before in
+    let s = c .before .before .before .before .before .before .before .before .before .before .before .before .before .before .before .before .before .before .before .before .before .before .before in
     let J = jobBy (now (s .args .card)) (s .args .h) (now (s .args .places)) (s .args .c) in
     record { fits = omega (arith, found-few J _ _ _ _ (s .pre .0 .placed .few) (s .pre .1) (c .before .before .before .before .before .before .before .before .search .ensures .1) (c .before .found .given .1)) }
 
 add-moved-2 : tie.Need-add-moved-2
 add-moved-2 c =
-    let s = c .before .before .before .before .before .before .before .before .before .before .before .before .before .before .before .before .before .before .before .before .before .before .before .before .before in
+    let s = c .before .before .before .before .before .before .before .before .before .before .before .before .before .before .before .before .before .before .before .before .before .before .before in
     let J = jobBy (now (s .args .card)) (s .args .h) (now (s .args .places)) (s .args .c) in
     record { fits = omega (arith, found-few J _ _ _ _ (s .pre .0 .placed .few) (s .pre .1) (c .before .before .before .before .before .before .before .before .search .ensures .1) (c .before .found .given .1)) }
 
 moved-requires : tie.Need-moved-requires
 moved-requires c κs =
-    let s = c .before .before .before .before .before .before .before .before .before .before .before .before .before .before .before .before .before .before .before .before .before .before .before .before .before in
+    let s = c .before .before .before .before .before .before .before .before .before .before .before .before .before .before .before .before .before .before .before .before .before .before .before in
     let J = jobBy (now (s .args .card)) (s .args .h) (now (s .args .places)) (s .args .c) in
     (s .pre .2 .evaluations, s .pre .2 .steps, omega (arith, found-few J _ _ _ _ (s .pre .0 .placed .few) (s .pre .1) (c .before .before .before .before .before .before .before .before .search .ensures .1) (c .before .found .given .1)))
 
@@ -107,7 +92,7 @@ enum-known-found-2 c = search needs
 
 with-status-requires-3 : tie.Need-with-status-requires-3
 with-status-requires-3 c κs =
-    let s = c .before .before .before .before .before .before .before .before .before .before .before .before .before .before .before .before .before .before .before .before .before .before .before .before .before in
+    let s = c .before .before .before .before .before .before .before .before .before .before .before .before .before .before .before .before .before .before .before .before .before .before .before in
     (s .pre .2 .evaluations, omega arith)
 
 same-length : tie.Need-same-length
@@ -118,11 +103,9 @@ same-length-2 c = search needs
 
 returns-2 : tie.Need-returns-2
 returns-2 c =
-    let s = c .before .before .before .before .before .before .before .before .before .before .before .before .before .before .before .before .before .before .before .before .before .before .before .before .before .before in
+    let s = c .before .before .before .before .before .before .before .before .before .before .before .before .before .before .before .before .before .before .before .before .before .before .before .before in
     let J = jobBy (now (s .args .card)) (s .args .h) (now (s .args .places)) (s .args .c) in
-    let g = take (length (now (s .args .places))) (s .args .t7) in
-    let n = norm-by J g _ (length-take-le _ _ (omega (arith, s .pre .0 .placed .few, s .pre .3))) (c .before .before .before .before .before .before .before .before .before .before .before .before .before .before .before .before .before .before .before .norm .ensures) in
-    stalled J (s .args .r) _ (s .pre .2) g _ (s .pre .4) n (s .pre .0 .placed .few) (s .pre .1) (c .before .before .before .before .before .before .before .before .before .before .before .before .before .before .before .before .before .if1 .left) _ (c .before .before .before .before .before .before .before .before .before .search .ensures .0) (c .before .before .enum-told .given .1) (c .with-status2 .ensures)
+    stalled J (s .args .r) _ (s .pre .2) _ _ (s .pre .4) (s .pre .0 .placed .few) (s .pre .1) (c .before .before .before .before .before .before .before .before .before .before .before .before .before .before .before .before .before .if1 .left) _ (c .before .before .before .before .before .before .before .before .before .search .ensures .0) (c .before .before .enum-told .given .1) (c .with-status2 .ensures)
 
 same-length-3 : tie.Need-same-length-3
 same-length-3 c = search needs
@@ -132,11 +115,9 @@ same-length-4 c = search needs
 
 returns-3 : tie.Need-returns-3
 returns-3 c =
-    let s = c .before .before .before .before .before .before .before .before .before .before .before .before .before .before .before .before .before .before .before .before .before .before .before .before .before .before in
+    let s = c .before .before .before .before .before .before .before .before .before .before .before .before .before .before .before .before .before .before .before .before .before .before .before .before in
     let J = jobBy (now (s .args .card)) (s .args .h) (now (s .args .places)) (s .args .c) in
-    let g = take (length (now (s .args .places))) (s .args .t7) in
-    let n = norm-by J g _ (length-take-le _ _ (omega (arith, s .pre .0 .placed .few, s .pre .3))) (c .before .before .before .before .before .before .before .before .before .before .before .before .before .before .before .before .before .before .before .norm .ensures) in
-    accepted J (s .args .r) _ (s .pre .2) g _ (s .pre .4) n (s .pre .0 .placed .few) (s .pre .1) (c .before .before .before .before .before .before .before .before .before .before .before .before .before .before .before .before .before .if1 .left) _ (c .before .before .before .before .before .before .before .before .before .search .ensures .0) _ (c .before .before .before .before .before .before .before .before .before .before .before .before .before .before .before .room .result) (sym (c .before .before .before .before .before .before .before .before .before .before .before .before .before .before .before .room .ensures)) (c .before .before .before .before .before .before .before .before .before .search .ensures .1) (c .before .before .found .given .1) (c .moved .ensures)
+    accepted J (s .args .r) _ (s .pre .2) _ _ (s .pre .4) (s .pre .0 .placed .few) (s .pre .1) (c .before .before .before .before .before .before .before .before .before .before .before .before .before .before .before .before .before .if1 .left) _ (c .before .before .before .before .before .before .before .before .before .search .ensures .0) _ (c .before .before .before .before .before .before .before .before .before .before .before .before .before .before .before .room .result) (sym (c .before .before .before .before .before .before .before .before .before .before .before .before .before .before .before .room .ensures)) (c .before .before .before .before .before .before .before .before .before .search .ensures .1) (c .before .before .found .given .1) (c .moved .ensures)
 
 same-length-5 : tie.Need-same-length-5
 same-length-5 c = search needs
@@ -146,26 +127,21 @@ same-length-6 c = search needs
 
 returns-4 : tie.Need-returns-4
 returns-4 c =
-    let s = c .before .before .before .before .before .before .before .before .before .before .before .before .before .before .before .before .before .before .before .before .before .before .before .before .before .before in
+    let s = c .before .before .before .before .before .before .before .before .before .before .before .before .before .before .before .before .before .before .before .before .before .before .before .before in
     let J = jobBy (now (s .args .card)) (s .args .h) (now (s .args .places)) (s .args .c) in
-    let g = take (length (now (s .args .places))) (s .args .t7) in
-    let n = norm-by J g _ (length-take-le _ _ (omega (arith, s .pre .0 .placed .few, s .pre .3))) (c .before .before .before .before .before .before .before .before .before .before .before .before .before .before .before .before .before .before .before .norm .ensures) in
-    lost J (s .args .r) _ (s .pre .2) g _ (s .pre .4) n (s .pre .0 .placed .few) (s .pre .1) (c .before .before .before .before .before .before .before .before .before .before .before .before .before .before .before .before .before .if1 .left) _ (c .before .before .before .before .before .before .before .before .before .search .ensures .0) (c .before .before .found2 .given .1) (c .with-status3 .ensures)
+    lost J (s .args .r) _ (s .pre .2) _ _ (s .pre .4) (s .pre .0 .placed .few) (s .pre .1) (c .before .before .before .before .before .before .before .before .before .before .before .before .before .before .before .before .before .if1 .left) _ (c .before .before .before .before .before .before .before .before .before .search .ensures .0) (c .before .before .found2 .given .1) (c .with-status3 .ensures)
 
 pub descend-spec : {M : Type 1} → statement M
 descend-spec =
     tie.close
     (tie.spec
-    array-share-prefix-g
-    slice-aggregate-norm
-    norm-requires
     mul-n
     with-status-requires
     returns
     room-requires
     array-share-prefix-x
     slice-aggregate-search
-    array-share-prefix-g-2
+    array-share-prefix-g
     slice-aggregate-search-2
     array-borrow-prefix-t
     slice-aggregate-search-3

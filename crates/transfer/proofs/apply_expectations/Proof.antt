@@ -8,7 +8,7 @@ use lib.Ieee.{Float}
 use denote.Ref.{now}
 use native.Mathlib.Omega.{arith}
 use mathlib.Core.List.{List}
-use mathlib.Core.Path.{_≡_, sym, ap, _∙_}
+use mathlib.Core.Path.{sym, ap, _∙_}
 use borrow.Author.Needs.{needs}
 use Rattle.transfer.proofs.apply_expectations.Statement.{statement}
 use Rattle.transfer.proofs.apply_expectations.Tie as tie

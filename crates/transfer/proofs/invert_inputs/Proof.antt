@@ -1,6 +1,7 @@
 -- `transfer::invert_inputs` meets its contract. Assumes nothing.
-use Rattle.transfer.proofs.Vectors.{square-most, length-columns}
+use Rattle.transfer.proofs.Vectors.{square-most}
 use Rattle.transfer.specs.Process.{inputsOf}
+use Rattle.matrix.proofs.Transposes.{length-transposed}
 use Rattle.inversion.specs.Inversion.{invertible, inverseOf}
 use Rattle.lists.proofs.Parts.{front-again, front-fits, front-length}
 use Rattle.lists.specs.Build.{over}
@@ -19,20 +20,20 @@ square-requires c κs = search needs
 matrix-room-requires : tie.Need-matrix-room-requires
 matrix-room-requires c κs = search needs
 
-slice-aggregate-columns : tie.Need-slice-aggregate-columns
-slice-aggregate-columns c = search needs
+slice-aggregate-transpose : tie.Need-slice-aggregate-transpose
+slice-aggregate-transpose c = search needs
 
-columns-requires : tie.Need-columns-requires
-columns-requires c κs = let s = c .before .before .before .before .before in (s .pre .0, omega arith, omega (arith, square-most (s .args .p) (s .pre .0)))
+transpose-requires : tie.Need-transpose-requires
+transpose-requires c κs = let s = c .before .before .before .before .before in (s .pre .0, omega arith, omega (arith, square-most (s .args .p) (s .pre .0)))
 
 array-share-prefix-inputs : tie.Need-array-share-prefix-inputs
-array-share-prefix-inputs c = let s = c .before .before .before .before .before .before .before in front-fits (inputsOf (now (s .args .vectors)) (s .args .p)) _ (c .before .columns .ensures) (length-columns _ _ _ ∙ sym (c .before .before .before .before .square .ensures .0))
+array-share-prefix-inputs c = let s = c .before .before .before .before .before .before .before in front-fits (inputsOf (now (s .args .vectors)) (s .args .p)) _ (c .before .transpose .ensures) (length-transposed _ _ ∙ sym (c .before .before .before .before .square .ensures .0))
 
 slice-aggregate-invert : tie.Need-slice-aggregate-invert
-slice-aggregate-invert c = let s = c .before .before .before .before .before .before .before .before in sym (front-length (inputsOf (now (s .args .vectors)) (s .args .p)) _ (c .before .before .columns .ensures) (length-columns _ _ _ ∙ sym (c .before .before .before .before .before .square .ensures .0)))
+slice-aggregate-invert c = let s = c .before .before .before .before .before .before .before .before in sym (front-length (inputsOf (now (s .args .vectors)) (s .args .p)) _ (c .before .before .transpose .ensures) (length-transposed _ _ ∙ sym (c .before .before .before .before .before .square .ensures .0)))
 
 invert-requires : tie.Need-invert-requires
-invert-requires c κs = let s = c .before .before .before .before .before .before .before .before .before in (s .pre .0, omega (arith, front-length (inputsOf (now (s .args .vectors)) (s .args .p)) _ (c .before .before .before .columns .ensures) (length-columns _ _ _ ∙ sym (c .before .before .before .before .before .before .square .ensures .0)), c .before .before .before .before .before .before .square .ensures .0), s .pre .2)
+invert-requires c κs = let s = c .before .before .before .before .before .before .before .before .before in (s .pre .0, omega (arith, front-length (inputsOf (now (s .args .vectors)) (s .args .p)) _ (c .before .before .before .transpose .ensures) (length-transposed _ _ ∙ sym (c .before .before .before .before .before .before .square .ensures .0)), c .before .before .before .before .before .before .square .ensures .0), s .pre .2)
 
 same-length : tie.Need-same-length
 same-length c = search needs
@@ -40,7 +41,7 @@ same-length c = search needs
 returns : tie.Need-returns
 returns c =
     let s = c .before .before .before .before .before .before .before .before .before .before .before .before in
-    let e = front-again (inputsOf (now (s .args .vectors)) (s .args .p)) _ (c .before .before .before .before .before .before .columns .ensures) (length-columns _ _ _ ∙ sym (c .before .before .before .before .before .before .before .before .before .square .ensures .0)) in
+    let e = front-again (inputsOf (now (s .args .vectors)) (s .args .p)) _ (c .before .before .before .before .before .before .transpose .ensures) (length-transposed _ _ ∙ sym (c .before .before .before .before .before .before .before .before .before .square .ensures .0)) in
     (c .before .before .invert .ensures .0 ∙ ap (invertible (s .args .p) (s .args .tolerance)) e, c .before .before .invert .ensures .1 ∙ ap (λ (a : List Float). over (inverseOf (s .args .p) (s .args .tolerance) a) (now (s .args .inverse))) e)
 
 pub invert-inputs-spec : {M : Type 1} → statement M
@@ -49,8 +50,8 @@ invert-inputs-spec =
     (tie.spec
     square-requires
     matrix-room-requires
-    slice-aggregate-columns
-    columns-requires
+    slice-aggregate-transpose
+    transpose-requires
     array-share-prefix-inputs
     slice-aggregate-invert
     invert-requires

@@ -1,15 +1,16 @@
 -- `transfer::multiply_outputs` meets its contract. Assumes nothing.
-use Rattle.transfer.proofs.Vectors.{square-most, length-columns}
-use Rattle.transfer.specs.Vectors.{columnsOf}
-use Rattle.matrix.specs.Product.{matMulOf}
-use Rattle.lists.proofs.Parts.{front-again, front-fits, front-length}
-use lib.Ieee.{Float}
-use lib.ListN.{drop}
-use denote.Ref.{now}
-use Prim.Native.Nat.{ℕ, _*_}
-use native.Mathlib.Omega.{arith}
+use Prim.Native.Nat.{ℕ, _-_, _*_}
+use mathlib.Core.Path.{sym, ap, _∙_}
 use mathlib.Core.List.{List, _++_}
-use mathlib.Core.Path.{_≡_, sym, ap, _∙_}
+use native.Mathlib.Omega.{arith}
+use denote.Ref.{now}
+use lib.ListN.{length, drop, length-drop}
+use lib.Seq.{take-all}
+use lib.Ieee.{Float}
+use Rattle.lists.proofs.Parts.{front-again, front-fits, front-length}
+use Rattle.matrix.specs.Product.{matMulOf, transposedOf}
+use Rattle.matrix.proofs.Transposes.{length-transposed}
+use Rattle.transfer.proofs.Vectors.{square-most}
 use borrow.Author.Needs.{needs}
 use Rattle.transfer.proofs.multiply_outputs.Statement.{statement}
 use Rattle.transfer.proofs.multiply_outputs.Tie as tie
@@ -20,30 +21,38 @@ square-requires c κs = search needs
 matrix-room-requires : tie.Need-matrix-room-requires
 matrix-room-requires c κs = search needs
 
-slice-aggregate-columns : tie.Need-slice-aggregate-columns
-slice-aggregate-columns c = search needs
+mul-transpose : tie.Need-mul-transpose
+mul-transpose c = search needs
 
-columns-requires : tie.Need-columns-requires
-columns-requires c κs = let s = c .before .before .before .before .before .before in (s .pre .0, omega (arith, c .before .before .square .ensures .0), omega (arith, square-most (s .args .p) (s .pre .0)))
+sub-transpose : tie.Need-sub-transpose
+sub-transpose c = search needs
+
+part-transpose-start : tie.Need-part-transpose-start
+part-transpose-start c = search needs
+
+part-transpose-end : tie.Need-part-transpose-end
+part-transpose-end c = search needs
+
+slice-aggregate-transpose : tie.Need-slice-aggregate-transpose
+slice-aggregate-transpose c = search needs
+
+transpose-requires : tie.Need-transpose-requires
+transpose-requires c κs = let v = now (c .before .before .before .before .before .before .before .args .vectors) in let m = c .before .before .before .square .ensures .0 in (c .before .before .before .before .before .before .before .pre .0, omega (arith, m, length-drop (c .before .before .before .square .result) v, ap length (take-all (length v - c .before .before .before .square .result) (drop (c .before .before .before .square .result) v) (omega (arith, length-drop (c .before .before .before .square .result) v)))), omega (arith, square-most (c .before .before .before .before .before .before .before .args .p) (c .before .before .before .before .before .before .before .pre .0)))
 
 array-share-prefix-outputs : tie.Need-array-share-prefix-outputs
-array-share-prefix-outputs c = let s = c .before .before .before .before .before .before .before .before in front-fits (columnsOf (now (s .args .vectors)) _ (s .args .p)) _ (c .before .columns .ensures) (length-columns _ _ _ ∙ sym (c .before .before .before .before .square .ensures .0))
+array-share-prefix-outputs c = front-fits (transposedOf (c .before .before .before .before .before .before .before .before .before .args .p) _) _ (c .before .transpose .ensures) (length-transposed _ _ ∙ sym (c .before .before .before .before .before .square .ensures .0))
 
 slice-aggregate-mat-mul : tie.Need-slice-aggregate-mat-mul
-slice-aggregate-mat-mul c = let s = c .before .before .before .before .before .before .before .before .before in sym (front-length (columnsOf (now (s .args .vectors)) _ (s .args .p)) _ (c .before .before .columns .ensures) (length-columns _ _ _ ∙ sym (c .before .before .before .before .before .square .ensures .0)))
+slice-aggregate-mat-mul c = sym (front-length (transposedOf (c .before .before .before .before .before .before .before .before .before .before .args .p) _) _ (c .before .before .transpose .ensures) (length-transposed _ _ ∙ sym (c .before .before .before .before .before .before .square .ensures .0)))
 
 mat-mul-requires : tie.Need-mat-mul-requires
-mat-mul-requires c κs = let s = c .before .before .before .before .before .before .before .before .before .before in (s .pre .0, omega (arith, front-length (columnsOf (now (s .args .vectors)) _ (s .args .p)) _ (c .before .before .before .columns .ensures) (length-columns _ _ _ ∙ sym (c .before .before .before .before .before .before .square .ensures .0)), c .before .before .before .before .before .before .square .ensures .0), s .pre .2, s .pre .3)
+mat-mul-requires c κs = (c .before .before .before .before .before .before .before .before .before .before .before .pre .0, omega (arith, front-length (transposedOf (c .before .before .before .before .before .before .before .before .before .before .before .args .p) _) _ (c .before .before .before .transpose .ensures) (length-transposed _ _ ∙ sym (c .before .before .before .before .before .before .before .square .ensures .0)), c .before .before .before .before .before .before .before .square .ensures .0), c .before .before .before .before .before .before .before .before .before .before .before .pre .2, c .before .before .before .before .before .before .before .before .before .before .before .pre .3)
 
 same-length : tie.Need-same-length
 same-length c = search needs
 
 returns : tie.Need-returns
-returns c =
-    let s = c .before .before .before .before .before .before .before .before .before .before .before .before .before in
-    let p = s .args .p in
-    let v = now (s .args .vectors) in
-    c .before .before .mat-mul .ensures ∙ ap (λ (a : List Float). matMulOf p a (now (s .args .inverse)) ++ drop (p * p) (now (s .args .out))) (front-again (columnsOf v _ p) _ (c .before .before .before .before .before .before .columns .ensures) (length-columns _ _ _ ∙ sym (c .before .before .before .before .before .before .before .before .before .square .ensures .0)) ∙ ap (λ (m : ℕ). columnsOf v m p) (c .before .before .before .before .before .before .before .before .before .square .ensures .0))
+returns c = let p = c .before .before .before .before .before .before .before .before .before .before .before .before .before .before .args .p in let v = now (c .before .before .before .before .before .before .before .before .before .before .before .before .before .before .args .vectors) in let m = c .before .before .before .before .before .before .before .before .before .before .square .result in c .before .before .mat-mul .ensures ∙ ap (λ (a : List Float). matMulOf p a (now (c .before .before .before .before .before .before .before .before .before .before .before .before .before .before .args .inverse)) ++ drop (p * p) (now (c .before .before .before .before .before .before .before .before .before .before .before .before .before .before .args .out))) (front-again (transposedOf p _) _ (c .before .before .before .before .before .before .transpose .ensures) (length-transposed _ _ ∙ sym (c .before .before .before .before .before .before .before .before .before .before .square .ensures .0)) ∙ ap (transposedOf p) (take-all (length v - m) (drop m v) (omega (arith, length-drop m v)) ∙ ap (λ (k : ℕ). drop k v) (c .before .before .before .before .before .before .before .before .before .before .square .ensures .0)))
 
 pub multiply-outputs-spec : {M : Type 1} → statement M
 multiply-outputs-spec =
@@ -51,8 +60,12 @@ multiply-outputs-spec =
     (tie.spec
     square-requires
     matrix-room-requires
-    slice-aggregate-columns
-    columns-requires
+    mul-transpose
+    sub-transpose
+    part-transpose-start
+    part-transpose-end
+    slice-aggregate-transpose
+    transpose-requires
     array-share-prefix-outputs
     slice-aggregate-mat-mul
     mat-mul-requires
