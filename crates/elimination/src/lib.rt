@@ -108,7 +108,7 @@ fn clear_by(work: &mut [f64], n: usize, w: usize, k: usize, p: usize, c: usize)
     eliminate_rows(work, &pivot[..w], n, w, k, c);
 }
 
-// Clears column k of 16 rows of 32 numbers, from the first column of its four on: those before are not read again.
+// Clears column k of rows of 32 numbers, from the first column of its four on: those before are not read again.
 fn clear_wide(work: &mut [f64], n: usize, k: usize, p: usize)
     requires { ⌜ (k < n) × (p < n) × (k < 16) × (n * 32 ≤ length (now work)) ⌝ }
     ensures { λ _. ⌜ now (work .exit) ≡ clearedFrom (k / 4 * 4) n 32 k p (now (work .entry)) ⌝ }
@@ -128,7 +128,7 @@ fn clear_wide(work: &mut [f64], n: usize, k: usize, p: usize)
     clear_by(work, n, 32, k, p, 12);
 }
 
-// Clears column k of n rows of w numbers by the pivot in row p, in the columns from k on.
+// Clears column k of n rows of w numbers by the pivot in row p: of rows of 32 from the first column of its four on, of others in full.
 pub fn clear_column(work: &mut [f64], n: usize, w: usize, k: usize, p: usize)
     requires { ⌜ (k < n) × (p < n) × (n ≤ 16) × (k < w) × (w ≤ 32) × (n * w ≤ length (now work)) ⌝ }
     ensures { λ _. ⌜ now (work .exit) ≡ clearedFrom (firstColumn w k) n w k p (now (work .entry)) ⌝ }

@@ -111,7 +111,7 @@ struct Probes {
     left: Evaluated,
 }
 
-// The same of two coordinate lists that are finite, at one go over the records.
+// Two coordinate lists that are finite, evaluated in one pass over the records.
 fn evaluate_finite(
     card: &[u8],
     h: Header,

@@ -1,4 +1,4 @@
--- The probe vectors of a process: p input vectors of p expectations, one after the other, then p output vectors.
+-- The probe vectors of a process (document 01, kind 3): p input vectors of p expectations, one after the other, then p output vectors.
 use Prim.Native.Nat.{ℕ, _*_}
 use mathlib.Core.List.{List}
 use lib.Ieee.{Float}
