@@ -91,6 +91,30 @@ fn rust_alone(job: Job) -> Box<dyn FnMut()> {
     }
 }
 
+/// The card with a NaN as its last number, on both sides: read and tested as before, and refused before anything is
+/// computed. Of the kinds whose function itself tests the last number of the card.
+fn uncomputed_runs(words: &[u64]) -> Vec<Run> {
+    let mut words = words.to_vec();
+    *words.last_mut().expect("a card has words") = f64::NAN.to_bits();
+    let bytes = card::bytes_of(&words);
+    // A NaN where a coordinate or a count should be is a fault of the card.
+    let Ok(job) = card::read(&bytes) else { return Vec::new() };
+    let alone: Box<dyn FnMut()> = match job {
+        Job::Process { n, tolerance, inputs, outputs } => Box::new(move || {
+            black_box(process_linear_inversion(n, black_box(&inputs), black_box(&outputs), tolerance)).unwrap_err();
+        }),
+        Job::Gauge { model, transform } => {
+            let model = sheet::model_of(&model).unwrap();
+            Box::new(move || {
+                black_box(black_box(&model).gauge_transform(black_box(&transform))).unwrap_err();
+            })
+        }
+        _ => return Vec::new(),
+    };
+    assert_eq!(sheet::outcome(&bytes).answer(), [0, 3, 0, 0, 0], "refused as not finite");
+    vec![("port, last number a NaN", port_sheet(bytes)), ("Rust alone, last number a NaN", alone)]
+}
+
 /// The Rust's function of a library call alone, its arguments built before the clock starts.
 fn rust_call_alone(call: Call) -> Box<dyn FnMut()> {
     match call {
@@ -237,6 +261,9 @@ fn report(title: &str, mut runs: Vec<Run>, rounds: usize) {
     }
     println!("  Rust alone / port                    {:12.2}", medians[1] / medians[0]);
     println!("  Rust to words / port                 {:12.2}", medians[2] / medians[0]);
+    if let [port, alone, _, _, port_uncomputed, alone_uncomputed] = medians[..] {
+        println!("  computing alone, Rust / port         {:12.2}", (alone - alone_uncomputed) / (port - port_uncomputed));
+    }
 }
 
 /// A card's or a call's runs: the port, the Rust's function alone, the Rust to words, and what the port's call costs at least.
@@ -247,7 +274,7 @@ fn card_runs(words: &[u64]) -> Vec<Run> {
     lent.check(sheet::outcome(&bytes));
     let job = card::read(&bytes).expect("the card is accepted");
     let whole = bytes.clone();
-    vec![
+    let mut runs: Vec<Run> = vec![
         ("port, card to result", port_sheet(bytes)),
         ("Rust function alone, values parsed", rust_alone(job)),
         ("Rust, card to result words", Box::new(move || {
@@ -255,7 +282,9 @@ fn card_runs(words: &[u64]) -> Vec<Run> {
         })),
         // An unknown kind is refused at once: what remains is the call and clearing work.
         ("port, refused at word 0", port_sheet(vec![0; 8])),
-    ]
+    ];
+    runs.extend(uncomputed_runs(words));
+    runs
 }
 
 fn call_runs(call: Call) -> Vec<Run> {

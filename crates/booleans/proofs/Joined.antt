@@ -32,6 +32,14 @@ pub and-both : (a b : Bool) → a && b ≡ true → (a ≡ true) × (b ≡ true)
 and-both true b e = (refl, e)
 and-both false b e = clash false e refl
 
+pub and-true : (a : Bool) → a && true ≡ a
+and-true true = refl
+and-true false = refl
+
+pub and-assoc : (a b c : Bool) → (a && b) && c ≡ a && (b && c)
+and-assoc true b c = refl
+and-assoc false b c = refl
+
 pub and-no : (a b : Bool) → b ≡ false → a && b ≡ false
 and-no true b h = h
 and-no false b h = refl

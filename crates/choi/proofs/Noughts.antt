@@ -12,7 +12,7 @@ use borrow.Author.Tests.{lt-ltb}
 use Rattle.numbers.specs.Number.{finite, Plain, _+ᶠ_, _-ᶠ_, _*ᶠ_, _/ᶠ_}
 use Rattle.numbers.proofs.Leaves.{clash, zero-exponent}
 use Rattle.rounding.proofs.Unique.{round-self}
-use Rattle.rounding.proofs.Zeros.{round-zero, add-nothing, finite-over}
+use Rattle.rounding.proofs.Zeros.{round-zero, own-last, add-nothing, finite-over}
 
 -- +0 or -0
 pub record Nought (x : Float) : Type 0 where
@@ -94,10 +94,6 @@ own-first s m e t h =
     ap (λ (z : ℕ). sum binary64 t z s a c) (zero-mul (down e))
     ∙ nothing-first binary64 s t a c (mul-pos (mul-pos (zero-lt-suc m) (up-pos e)) (pow-pos 0))
     ∙ round-self binary64 s m e a c (mul-pos (pow-pos 0) (down-pos e)) h (rw (mul-one, one-mul))
-
-own-last : (s : Bool) (m : ℕ) (e : ℤ) (t : Bool) → T (fits binary64 (fin s (suc m) e)) → add binary64 (fin s (suc m) e) (fin t 0 (pos 0)) ≡ fin s (suc m) e
-own-last true m e t h = add-nothing (fin true (suc m) e) t h tt
-own-last false m e t h = add-nothing (fin false (suc m) e) t h tt
 
 -- v and a zero, in either order, are as good as v
 module _ (x z : Float) (s : Steady x) (o : Nought z) where

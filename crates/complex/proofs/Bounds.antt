@@ -13,7 +13,7 @@ use lib.Ieee.Exact.{HasValue}
 use lib.Ieee.Fits.{up-pos, down-pos, add-fits}
 use lib.Ieee.Order.{round-mono}
 use borrow.Author.Tests.{ltb-true, ltb-false, ne-eqb}
-use Rattle.numbers.specs.Number.{number, finite, negative, abs, max, zeroF, oneF, _+ᶠ_, _*ᶠ_, _/ᶠ_}
+use Rattle.numbers.specs.Number.{finite, negative, abs, max, zeroF, oneF, _+ᶠ_, _*ᶠ_, _/ᶠ_}
 use Rattle.numbers.proofs.Leaves.{clash, nought}
 use Rattle.numbers.proofs.Order.{not-above, not-past}
 use Rattle.rounding.specs.Units.{U}

@@ -11,7 +11,7 @@ use Rattle.lists.specs.Build.{build}
 use Rattle.lists.specs.Fold.{fold}
 use Rattle.lists.proofs.Filling.{Filled, fill-more, fill-all, build-same, getD-build, length-build}
 use Rattle.lists.proofs.Folding.{fold-same, fold-end, build-fold}
-use Rattle.numbers.specs.Number.{zeroF}
+use Rattle.numbers.specs.Number.{zeroF, halfF}
 use Rattle.numbers.specs.Slice.{at, blank}
 use Rattle.complex.specs.declared.Complex.{Complex}
 use Rattle.complex.specs.Arithmetic.{plus, times, scaled, conjugate}
@@ -20,10 +20,10 @@ use Rattle.entries.specs.Laid.{changed, changedRow}
 use Rattle.entries.proofs.Pairs.{length-entries, get-entry}
 use Rattle.entries.proofs.Laying.{changed-whole, changed-same}
 use Rattle.turns.specs.Rotation.{real}
-use Rattle.density.specs.Projection.{half, halvedAt, termAt, mixedAt, mixed}
+use Rattle.density.specs.Projection.{halvedAt, termAt, mixedAt, mixed}
 use Rattle.density.specs.Steps.{conjugates, rowAdded, withRow, withTerm}
 
-pub halved-is : (n : ℕ) (e : List Complex) (i j : ℕ) {x y z s r : Complex} → x ≡ entryAt n e i j → y ≡ entryAt n e j i → z ≡ conjugate y → s ≡ plus x z → r ≡ scaled s half → r ≡ halvedAt n e i j
+pub halved-is : (n : ℕ) (e : List Complex) (i j : ℕ) {x y z s r : Complex} → x ≡ entryAt n e i j → y ≡ entryAt n e j i → z ≡ conjugate y → s ≡ plus x z → r ≡ scaled s halfF → r ≡ halvedAt n e i j
 unfolding halvedAt
 halved-is n e i j a b c d f = rw (← a, ← b, ← c, ← d) f
 

@@ -5,7 +5,7 @@ use mathlib.Core.List.{List, []}
 use Prim.Native.Nat.{ℕ}
 use lib.Ieee.{Float}
 use Rattle.lists.specs.Fold.{fold}
-use Rattle.numbers.specs.Number.{number, zeroF, positive}
+use Rattle.numbers.specs.Number.{zeroF, positive, halfF}
 use Rattle.numbers.specs.Slice.{at, allFinite}
 use Rattle.complex.specs.declared.Complex.{Complex}
 use Rattle.complex.specs.Arithmetic.{plus, times, scaled, conjugate}
@@ -18,12 +18,9 @@ use Rattle.refusal.specs.declared.Verdict.{Verdict}
 use Rattle.refusal.specs.declared.Verdict.the-variants.{Good, Refused}
 use Rattle.refusal.specs.Verdicts.{firstOf, after, finiteOr}
 
-abbrev pub half : Float
-half = number 0x3fe0000000000000
-
 -- the Hermitian part: half of the estimate plus its adjoint
 unfoldable pub halvedAt : ℕ → List Complex → ℕ → ℕ → Complex
-halvedAt n e i j = scaled (plus (entryAt n e i j) (conjugate (entryAt n e j i))) half
+halvedAt n e i j = scaled (plus (entryAt n e i j) (conjugate (entryAt n e j i))) halfF
 
 unfoldable pub halved : ℕ → List Complex → List Complex
 halved n e = matrix n n (halvedAt n e)

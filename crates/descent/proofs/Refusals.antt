@@ -6,7 +6,7 @@ use mathlib.Core.List.{List, []}
 use lib.ListN.{set}
 use lib.Ieee.{Float, lt}
 use Rattle.lists.proofs.Folding.{fold-keeps}
-use Rattle.numbers.specs.Number.{finite, zeroF, _+ᶠ_, _-ᶠ_, _*ᶠ_, _/ᶠ_}
+use Rattle.numbers.specs.Number.{finite, zeroF, twoF, _+ᶠ_, _-ᶠ_, _*ᶠ_, _/ᶠ_}
 use Rattle.numbers.specs.Slice.{at, allFinite}
 use Rattle.refusal.specs.declared.Refusal.{Refusal}
 use Rattle.refusal.specs.declared.Refusal.the-variants.{NonFinite, InvalidProbabilities, InvalidGstOptimization}
@@ -21,7 +21,7 @@ use Rattle.descent.specs.declared.Search.{Search}
 use Rattle.descent.specs.declared.Search.the-variants.{Searching, Found, Lost}
 use Rattle.descent.specs.declared.GstTermination.{GstTermination}
 use Rattle.descent.specs.declared.GstTermination.the-variants.{GradientTolerance, ObjectiveTolerance, MaximumIterations}
-use Rattle.descent.specs.Fit.{Job, Point, State, going, stopped, refused, Slopes, slopes, unusable, Outcome, fitted, turned, usable, differenceOf, withSlope, judged, twoF}
+use Rattle.descent.specs.Fit.{Job, Point, State, going, stopped, refused, Slopes, slopes, unusable, Outcome, fitted, unfitted, usable, differenceOf, withSlope, judged}
 use Rattle.descent.specs.Fit.{size, backtracks, iterations, modelOf, scored, evaluate, displacement, derivative, gradient, flat, trial, onward, searchTo, small, counted, searched, stepBy, step, next, beginBy, after, closedBy, closed, finished, fitBy, fitOf}
 use Rattle.descent.proofs.Laws.{split}
 
@@ -57,7 +57,7 @@ module _ (P : Refusal → Type 0) where
 
   abbrev pub InOutcome : Outcome → Type 0
   InOutcome (fitted f) = Unit {0}
-  InOutcome (turned r) = P r
+  InOutcome (unfitted r) = P r
 
 module _ (J : Job) (P : Refusal → Type 0) (not-finite : P NonFinite) (no-gradient : P (InvalidGstOptimization 5)) (failing : P InvalidProbabilities)
     (likelihoods : (m : List Float) → InLikelihood P (J .likelihood m)) where

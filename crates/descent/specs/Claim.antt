@@ -14,7 +14,7 @@ use Rattle.descent.specs.declared.Evaluated.{Evaluated}
 use Rattle.descent.specs.declared.Evaluated.the-variants.{Value, Passed, Broken}
 use Rattle.descent.specs.declared.GstTermination.{GstTermination}
 use Rattle.descent.specs.declared.GstTermination.the-variants.{GradientTolerance, ObjectiveTolerance, MaximumIterations, LineSearchStalled}
-use Rattle.descent.specs.Fit.{Job, Fitted, Slopes, slopes, unusable, size, iterations, backtracks, Outcome, fitted, turned, coordinatesOf, modelOf, scored, gradient, norm, flat, small, trial}
+use Rattle.descent.specs.Fit.{Job, Fitted, Slopes, slopes, unusable, size, iterations, backtracks, Outcome, fitted, unfitted, coordinatesOf, modelOf, scored, gradient, norm, flat, small, trial}
 
 -- p is among the places ps
 abbrev pub listed : ℕ → List ℕ → Bool
@@ -126,9 +126,9 @@ pub record Claim (J : Job) (s : Fitted) (points : List (List Float)) : Type 0 wh
 -- an outcome that is a sheet is that of some points
 abbrev pub Claimed : Job → Outcome → Type 0
 Claimed J (fitted s) = (points : List (List Float)) × Claim J s points
-Claimed J (turned r) = Unit {0}
+Claimed J (unfitted r) = Unit {0}
 
 -- and its evaluations are at most 1 + 2P(I + 1) + I·B
 abbrev pub Counted : Job → Outcome → Type 0
 Counted J (fitted s) = s .evaluations ≤ 1 + 2 * size J * (iterations J + 1) + iterations J * backtracks J
-Counted J (turned r) = Unit {0}
+Counted J (unfitted r) = Unit {0}

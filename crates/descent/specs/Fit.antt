@@ -6,7 +6,7 @@ use lib.ListN.{length, set}
 use lib.Ieee.{Float, neg, lt, le}
 use Rattle.lists.specs.Build.{build}
 use Rattle.lists.specs.Fold.{fold}
-use Rattle.numbers.specs.Number.{number, zeroF, oneF, finite, abs, max, _+ᶠ_, _-ᶠ_, _*ᶠ_, _/ᶠ_}
+use Rattle.numbers.specs.Number.{zeroF, oneF, finite, abs, max, halfF, twoF, _+ᶠ_, _-ᶠ_, _*ᶠ_, _/ᶠ_}
 use Rattle.numbers.specs.Slice.{at, allFinite}
 use Rattle.root.specs.Root.{sqrt}
 use Rattle.matrix.specs.Product.{sumOf}
@@ -32,12 +32,6 @@ pub record Job : Type 0 where
   pub places : List ℕ
   pub config : GstOptimizerConfig
   pub likelihood : List Float → Likelihood
-
-abbrev pub halfF : Float
-halfF = number 0x3fe0000000000000
-
-abbrev pub twoF : Float
-twoF = number 0x4000000000000000
 
 -- the model m with the numbers xs at the places ps: of two at one place the later wins
 unfoldable pub put : List ℕ → List Float → List Float → List Float
@@ -76,7 +70,7 @@ pub record Fitted : Type 0 where
 
 pub data Outcome : Type 0 where
   fitted : Fitted → Outcome
-  turned : Refusal → Outcome
+  unfitted : Refusal → Outcome
 
 -- a derivative that is not finite refuses the fit
 unfoldable pub usable : Float → Derivative
@@ -248,7 +242,7 @@ module _ (J : Job) where
         norm = norm g;
         model = modelOf (p .coordinates);
       })
-  closedBy d r p (unusable x) = turned x
+  closedBy d r p (unusable x) = unfitted x
 
   unfoldable pub closed : Diagnostics → GstTermination → Point → Outcome
   closed d r p = closedBy d r p (gradient (p .coordinates) (p .objective))
@@ -256,12 +250,12 @@ module _ (J : Job) where
   abbrev pub finished : Diagnostics → State → Outcome
   finished d (going p) = closed d MaximumIterations p
   finished d (stopped r p) = closed d r p
-  finished d (refused x) = turned x
+  finished d (refused x) = unfitted x
 
   abbrev pub fitBy : Likelihood → Outcome
   fitBy (likelihood.Fit d) = finished d (after iterations)
-  fitBy likelihood.Failed = turned InvalidProbabilities
-  fitBy (likelihood.Refused r) = turned r
+  fitBy likelihood.Failed = unfitted InvalidProbabilities
+  fitBy (likelihood.Refused r) = unfitted r
 
   unfoldable pub fitOf : Outcome
   fitOf = fitBy (J .likelihood (J .model))

@@ -1,4 +1,6 @@
 pub mod Loading
-pub mod Records
-pub mod Tables
 pub mod Models
+pub mod Records
+pub mod Rooms
+pub mod Tables
+pub mod Turns

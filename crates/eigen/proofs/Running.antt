@@ -15,8 +15,8 @@ use Rattle.numbers.specs.Number.{_*ᶠ_}
 use Rattle.complex.specs.declared.Complex.{Complex}
 use Rattle.magnitudes.specs.declared.Pivot.{Pivot}
 use Rattle.magnitudes.specs.Pivot.{pivotOf, scaleOf}
-use Rattle.magnitudes.specs.Notes.{Notes, Kept, measured, renoted}
-use Rattle.magnitudes.proofs.Keeping.{Long, kept-turn, pivot-within, kept-first}
+use Rattle.magnitudes.specs.Notes.{Notes, notes, Kept, found, searched, measured, renoted}
+use Rattle.magnitudes.proofs.Keeping.{Long, kept-turn, pivot-within, kept-first, search-finds}
 use Rattle.turns.specs.declared.Turn.{Turn}
 use Rattle.turns.specs.Rotation.{turnOf, turned, columnsTurned}
 use Rattle.turns.proofs.Whole.{same-outside}
@@ -60,6 +60,18 @@ turn-place n a g t e p q = rw e (p, q)
 pub found-within : (n : ℕ) (a : List Complex) (g : Pivot) → 0 < n → g ≡ pivotOf n a → (g .p < n) × (g .q < n)
 found-within n a g h e = rw e (pivot-within n a h)
 
+-- what a search finds lies within the matrix
+pub search-within : (n : ℕ) (a : List Complex) (w : Notes) (g : Pivot) (b s : List Float) → 0 < n → Long n w → Kept n a w → found g b s ≡ searched n a w → (g .p < n) × (g .q < n)
+search-within n a w g b s h l k e = found-within n a g h (search-finds n a w g b s l k e .0)
+
+-- a rotation at what a search found: the notes are right again, and the run goes on to the same end t
+pub search-turned : (r n : ℕ) (limit : Float) (k : ℕ) (a v : List Complex) (w : Notes) (g : Pivot) (b s : List Float) (d u : List Complex) (x : Notes) (t : Turns) → 0 < n → Long n w → Kept n a w → found g b s ≡ searched n a w
+    → Long n (notes b s) → 0 < k → le (g .best) limit ≡ false → Stepped r n g a v (notes b s) d u x → jacobi k r n limit a v ≡ t → Kept n d x × (jacobi (k - 1) r n limit d u ≡ t)
+search-turned r n limit k a v w g b s d u x t h l m e i j f p q =
+    let z = search-finds n a w g b s l m e in
+    let y = found-within n a g h (z .0) in
+    (kept-step r n g a v (notes b s) x d u (y .0) (y .1) i (z .1) p, run-more r n limit a v k g (notes b s) x d u j (z .0) f p ∙ q)
+
 -- one rotation, put together
 pub stepped : (r n : ℕ) (g : Pivot) (t : Turn) (a v b u : List Complex) (w x y : Notes) → t ≡ turnOf n a g → b ≡ turned n t a → u ≡ columnsTurned r n t v → x ≡ renoted n b (g .p) w → y ≡ renoted n b (g .q) x → Stepped r n g a v w b u y
 stepped r n g t a v b u w x y e f h i j = record { matrix = rw e at f; vectors = rw e at h; notes = rw i at j }
@@ -89,6 +101,9 @@ ascends n a d l w h e s = (s .0 ∙ rw (h, e), s .1 ∙ ap sorted e)
 
 pub below-square : (n : ℕ) → 0 < n → n ≤ n * n
 below-square n h = omega (arith, mul-le-mul-right n h)
+
+pub square-holds : (n m : ℕ) → 0 < n → m ≡ n * n → n ≤ m
+square-holds n m h e = omega (arith, below-square n h)
 
 module _ (n : ℕ) (tolerance : Float) (k : ℕ) (a b u : List Complex) where
   pub spectrum-is : (v x : List Complex) (w : List Float) (r : Bool) → v ≡ unit n → r ≡ true → ran r b u ≡ jacobi k n n (tolerance *ᶠ scaleOf n a) a v

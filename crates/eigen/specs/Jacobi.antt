@@ -7,7 +7,6 @@ use lib.ListN.{getD}
 use lib.Ieee.{Float, le}
 use Rattle.lists.specs.Build.{build}
 use Rattle.numbers.specs.Number.{zeroF, oneF, _*ᶠ_}
-use Rattle.numbers.specs.Slice.{at}
 use Rattle.complex.specs.declared.Complex.{Complex}
 use Rattle.entries.specs.Entries.{entryAt, matrix}
 use Rattle.magnitudes.specs.Pivot.{scaleOf, pivotOf}

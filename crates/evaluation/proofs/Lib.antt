@@ -1,5 +1,2 @@
-pub mod Lending
-pub mod Maps
-pub mod Puts
 pub mod Scores
 pub mod Slopes

@@ -1,14 +1,11 @@
--- The objective from the anchor's numbers, and that no score depends on the deviance. Assumes nothing.
-use mathlib.Core.Path.{_≡_, refl, ap, ap₂, _∙_}
+-- No score depends on the deviance. Assumes nothing.
+use mathlib.Core.Path.{_≡_, refl, ap, _∙_}
 use mathlib.Core.Bool.{true, false}
 use mathlib.Core.List.{List}
 use Prim.Native.Nat.{ℕ}
-use lib.ListN.{length}
-use lib.Ieee.{Float, neg}
+use lib.Ieee.{Float}
 use Rattle.lists.proofs.Choices.{yes}
-use Rattle.numbers.specs.Number.{_+ᶠ_, _-ᶠ_, _*ᶠ_}
-use Rattle.numbers.specs.Slice.{at, allFinite}
-use Rattle.matrix.specs.Product.{sumOf}
+use Rattle.numbers.specs.Slice.{allFinite}
 use Rattle.refusal.specs.declared.Refusal.the-variants.{NonFinite}
 use Rattle.logarithm.specs.Steps.{ln}
 use Rattle.card_layout.specs.declared.Header.{Header}
@@ -20,17 +17,10 @@ use Rattle.diagnostics.proofs.Models.{likelihood-alike}
 use Rattle.descent.specs.declared.GstOptimizerConfig.{GstOptimizerConfig}
 use Rattle.descent.specs.declared.Evaluated.{Evaluated}
 use Rattle.descent.specs.declared.Evaluated.the-variants.{Value, Broken}
-use Rattle.descent.specs.Fit.{Job, size, halfF, coordinatesOf, modelOf, distance, objectiveOf, scored, evaluate}
-use Rattle.evaluation.specs.Job.{jobBy}
+use Rattle.descent.specs.Fit.{Job, modelOf, objectiveOf, scored, evaluate}
+use Rattle.objective.specs.Job.{jobBy}
 
 module _ (J : Job) where
-  pub objective-by : (likely s : Float) (xs anchor : List Float) → anchor ≡ coordinatesOf J (J .model) → length xs ≡ size J
-      → s ≡ sumOf (length xs) (λ i. (at xs i -ᶠ at anchor i) *ᶠ (at xs i -ᶠ at anchor i)) → neg likely +ᶠ halfF *ᶠ J .config .«anchor_strength» *ᶠ s ≡ objectiveOf J likely xs
-  unfolding objectiveOf distance
-  objective-by likely s xs anchor a n e =
-      ap (λ (t : Float). neg likely +ᶠ halfF *ᶠ J .config .«anchor_strength» *ᶠ t)
-      (e ∙ ap₂ (λ (k : ℕ) (a : List Float). sumOf k (λ i. (at xs i -ᶠ at a i) *ᶠ (at xs i -ᶠ at a i))) n a)
-
   scored-alike : (l k : Likelihood) (xs : List Float) → Alike l k → scored J l xs ≡ scored J k xs
   scored-alike (Fit d) (Fit e) xs a = ap (λ (t : Float). Value (objectiveOf J t xs)) a
   scored-alike (Fit d) Failed xs a = absurd a

@@ -15,7 +15,8 @@ use Rattle.outcome.specs.declared.Answer.{Answer}
 use Rattle.outcome.specs.Outcome.{Outcome, refused, inRoom, Call}
 use Rattle.outcome.proofs.Refusals.{isRefused}
 use Rattle.tomography.specs.Sheet.{sheetOf, Sheet}
-use Rattle.exports.specs.Exported.{answerWords, answerCode, exportedOf, Exported, SheetExported}
+use Rattle.answer_words.specs.Words.{answerWords, answerCode}
+use Rattle.exports.specs.Exported.{exportedOf, Exported, SheetExported}
 
 module _ (o : Outcome) (result₀ result₁ : List ℕ) (work₀ work₁ : List Float) (answer₀ answer₁ : List ℕ) where
   no-room : length answer₀ < 5 → refused ShortBuffer ≡ exportedOf o result₀ work₀ answer₀

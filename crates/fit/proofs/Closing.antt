@@ -10,7 +10,7 @@ use Rattle.likelihood.specs.declared.Diagnostics.{Diagnostics}
 use Rattle.likelihood.specs.declared.Likelihood.{Likelihood}
 use Rattle.descent.specs.declared.GstTermination.{GstTermination}
 use Rattle.descent.specs.declared.GstTermination.the-variants.{GradientTolerance, ObjectiveTolerance, MaximumIterations, LineSearchStalled}
-use Rattle.descent.specs.Fit.{Job, Point, turned, unusable, size, modelOf, diagnosticsIn, gradient, reasonAt, closedBy, closed}
+use Rattle.descent.specs.Fit.{Job, Point, unfitted, unusable, size, modelOf, diagnosticsIn, gradient, reasonAt, closedBy, closed}
 use Rattle.steps.specs.declared.Slope.the-variants.{Norm}
 use Rattle.steps.specs.Running.{Sloped, Steep, keepsNorm}
 use Rattle.fit.specs.declared.Shown.{Shown}
@@ -39,7 +39,7 @@ module _ (J : Job) (d : Diagnostics) (r : GstTermination) (p : Point) where
       ∙ sym (ap (closedBy J d r p) (f .0))
 
   -- it is unusable
-  pub closes-refused : {x : Refusal} → gradient J (p .coordinates) (p .objective) ≡ unusable x → turned x ≡ closed J d r p
+  pub closes-refused : {x : Refusal} → gradient J (p .coordinates) (p .objective) ≡ unusable x → unfitted x ≡ closed J d r p
   unfolding closed
   closes-refused f = sym (ap (closedBy J d r p) f)
 

@@ -20,8 +20,8 @@ use Rattle.descent.specs.declared.GstOptimizerConfig.{GstOptimizerConfig}
 use Rattle.descent.specs.Fit.{Job, State, going, Outcome, size, iterations, coordinatesOf, objectiveOf, next, beginBy, after, finished, fitBy, fitOf}
 use Rattle.parameters.specs.Parameters.{configOf, placesOf}
 use Rattle.parameters.proofs.Places.{length-places}
-use Rattle.evaluation.specs.Job.{jobBy, Placed}
-use Rattle.evaluation.proofs.Maps.{length-map}
+use Rattle.objective.specs.Job.{jobBy, Placed}
+use Rattle.objective.proofs.Maps.{length-map}
 use Rattle.fit.specs.Outcome.{jobOf}
 
 -- the card's likelihood is l

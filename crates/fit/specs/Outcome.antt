@@ -5,9 +5,9 @@ use lib.Ieee.{Float}
 use Rattle.card_layout.specs.declared.Header.{Header}
 use Rattle.likelihood.specs.declared.Diagnostics.{Diagnostics}
 use Rattle.descent.specs.declared.GstTermination.{GstTermination}
-use Rattle.descent.specs.Fit.{Job, Point, Fitted, Outcome, fitted, turned, size, modelOf, diagnosticsIn}
+use Rattle.descent.specs.Fit.{Job, Point, Fitted, Outcome, fitted, unfitted, size, modelOf, diagnosticsIn}
 use Rattle.parameters.specs.Parameters.{configOf, placesOf}
-use Rattle.evaluation.specs.Job.{jobBy}
+use Rattle.objective.specs.Job.{jobBy}
 use Rattle.fit.specs.declared.Shown.{Shown}
 use Rattle.fit.specs.declared.Fitting.{Fitting}
 use Rattle.fit.specs.declared.Fitting.the-variants as fitting
@@ -32,4 +32,4 @@ fittedOf f m =
 -- an answer with the model's numbers that it left
 abbrev pub outcomeOf : Fitting → List Float → Outcome
 outcomeOf (fitting.Fitted f) m = fitted (fittedOf f m)
-outcomeOf (fitting.Refused r) m = turned r
+outcomeOf (fitting.Refused r) m = unfitted r

@@ -22,7 +22,7 @@ ghost use Rattle.model_words.specs.Words.{modelNumbers, numbersOf};
 ghost use Rattle.likelihood.specs.declared.Likelihood.the-variants.{Fit};
 ghost use Rattle.descent.specs.Fit as spec;
 ghost use Rattle.parameters.specs.Parameters.{configOf, placesOf};
-ghost use Rattle.evaluation.specs.Job.{jobBy, Placed, Lent};
+ghost use Rattle.objective.specs.Job.{jobBy, Placed, Lent};
 ghost use Rattle.steps.specs.declared.Status.the-variants.{Stopped};
 ghost use Rattle.steps.specs.Running.{pointOf, stateOf, keepsNorm, Normed, Underway};
 ghost use Rattle.fit.specs.Outcome.{jobOf, shownOf, outcomeOf};
@@ -48,11 +48,7 @@ fn read(model: &[f64], places: &[usize], out: &mut [f64])
     requires { ⌜ (length (now out) ≡ length (now places)) × ((i : ℕ) → i < length (now places) → getD (now places) i 0 < length (now model)) ⌝ }
     ensures { λ _. ⌜ now (out .exit) ≡ map (at (now (model .entry))) (now (places .entry)) ⌝ }
 {
-    let n = places.len();
-    for i in 0..n {
-        let place = places[i];
-        out[i] = model[place];
-    }
+    numbers::gather(model, places, out);
 }
 
 fn reason(stop: GstTermination, flat: bool) -> GstTermination
@@ -106,7 +102,7 @@ fn show(
 {
     let p = places.len();
     let x = r.coordinates;
-    evaluation::fill(card, h, places, &x[..p], model);
+    objective::fill(card, h, places, &x[..p], model);
     let l = diagnostics::fit_diagnostics(card, h, model, true, c.probability_tolerance, columns);
     let fit = diagnostics_in(l);
     let steps = r.steps;
@@ -237,7 +233,7 @@ fn fit_from(
     let mut x = room();
     read(model, places, &mut x[..p]);
     let anchor = x;
-    let o = evaluation::objective(card, h, places, c, &anchor[..p], d.log_likelihood, &x[..p]);
+    let o = objective::objective(card, h, places, c, &anchor[..p], d.log_likelihood, &x[..p]);
     let start = Running {
         coordinates: x,
         objective: o,

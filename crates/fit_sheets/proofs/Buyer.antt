@@ -26,7 +26,7 @@ use Rattle.model.specs.Checked.{checkedOf}
 use Rattle.model_words.specs.Words.{vectorNumbers, numbersOf, modelWordsOf}
 use Rattle.model_words.proofs.Sizes.{length-model}
 use Rattle.model_words.proofs.Entries.{length-model-words, name-word}
-use Rattle.descent.specs.Fit.{Fitted, fitted, turned, fitOf}
+use Rattle.descent.specs.Fit.{Fitted, fitted, unfitted, fitOf}
 use Rattle.descent.specs.Fit as descent
 use Rattle.descent.specs.Claim.{distinct, Sound, Claimed, Counted}
 use Rattle.descent.proofs.Points.{claimed}
@@ -137,7 +137,7 @@ buyer s h bytes different {R} {S} {E} {v} {M} {l} {m} g = checked (checkedOf s h
 
     ended : checkedOf s h ≡ verdict.Good → requestVerdict s h ≡ verdict.Good → (o : descent.Outcome) → fitOf (jobOf s h) ≡ o → Fit R S E v M ≡ sheet o .answer → m ≡ over (sheet o .words) l → Buyer s h R S E v m
     ended c q (fitted f) e a w = borne s h bytes c q different f l e a w
-    ended c q (turned r) e a w = never-fit a
+    ended c q (unfitted r) e a w = never-fit a
 
     requested : checkedOf s h ≡ verdict.Good → (x : Verdict) → requestVerdict s h ≡ x → Fit R S E v M ≡ after x refused (sheet (fitOf (jobOf s h))) .answer
         → m ≡ over (after x refused (sheet (fitOf (jobOf s h))) .words) l → Buyer s h R S E v m

@@ -17,7 +17,7 @@ use Rattle.model.specs.Checked.{checkedOf}
 use Rattle.model.proofs.Refusals.{lower-model}
 use Rattle.likelihood.specs.declared.Likelihood.{Likelihood}
 use Rattle.likelihood.specs.declared.Likelihood.the-variants as likelihood
-use Rattle.descent.specs.Fit.{fitted, turned, fitOf}
+use Rattle.descent.specs.Fit.{fitted, unfitted, fitOf}
 use Rattle.descent.specs.Fit as descent
 use Rattle.descent.proofs.Refusals.{InLikelihood, InOutcome, refusals-in}
 use Rattle.parameters.specs.Parameters.{configOf, goodConfig, hasEntry, repeated, parameterVerdict, parametersVerdict, requestVerdict}
@@ -59,7 +59,7 @@ low-in (likelihood.Refused r) p = p .low
 
 sound-outcome : (s : List ℕ) (h : Header) (o : descent.Outcome) → InOutcome NotShort o → Sound (outcomeSheet s h o)
 sound-outcome s h (fitted f) p = shown-sound verdict.Good (Fit _ _ _ _ _) _ lower-good refl
-sound-outcome s h (turned r) p = other r p
+sound-outcome s h (unfitted r) p = other r p
 
 pub fit-sheet-sound : (s : List ℕ) (h : Header) → Sound (fitSheet s h)
 unfolding fitSheet requestSheet

@@ -17,7 +17,7 @@ use Rattle.model_words.specs.Words.{modelWordsOf}
 use Rattle.likelihood.specs.declared.Diagnostics.{Diagnostics}
 use Rattle.descent.specs.declared.GstTermination.{GstTermination}
 use Rattle.descent.specs.declared.GstTermination.the-variants.{GradientTolerance, ObjectiveTolerance, MaximumIterations, LineSearchStalled}
-use Rattle.descent.specs.Fit.{Fitted, fitted, turned, fitOf}
+use Rattle.descent.specs.Fit.{Fitted, fitted, unfitted, fitOf}
 use Rattle.descent.specs.Fit as descent
 use Rattle.parameters.specs.Parameters.{requestVerdict}
 use Rattle.fit.specs.Outcome.{jobOf}
@@ -56,7 +56,7 @@ fitWords s h f = wordsOf 6 (fitNumbers (f .initial) (f .final) (f .objective) (f
 
 abbrev pub outcomeSheet : List ℕ → Header → descent.Outcome → Outcome
 outcomeSheet s h (fitted f) = record { answer = Fit (stopNumber (f .stop)) (f .steps) (f .evaluations) (converged (f .stop)) (modelWords h); words = fitWords s h f }
-outcomeSheet s h (turned r) = refused r
+outcomeSheet s h (unfitted r) = refused r
 
 -- the model is checked before the controls, the records and the coordinates
 unfoldable pub requestSheet : List ℕ → Header → Outcome

@@ -1,20 +1,24 @@
 -- Gates by columns: a row times such a matrix is the matrix itself times a column, sum by sum in the same order. Assumes nothing.
-use Prim.Native.Nat.{ℕ, _+_, _*_, _<_}
-use mathlib.Core.Path.{_≡_, ap, _∙_}
+use Prim.Native.Nat.{ℕ, _+_, _-_, _*_, _≤_, _<_}
+use mathlib.Core.Path.{_≡_, refl, sym, ap, _∙_}
 use mathlib.Core.List.{List, _++_}
-use lib.ListN.{length, getD, drop}
+use native.Mathlib.Nat.{le-of-eq}
+use native.Mathlib.Omega.{arith}
+use lib.ListN.{length, getD, take, drop}
 use lib.Ieee.{Float}
+use Rattle.lists.specs.Fold.{fold}
 use Rattle.lists.specs.Part.{part}
 use Rattle.lists.proofs.Filling.{length-build, build-same}
-use Rattle.lists.proofs.Folding.{fold-same}
-use Rattle.lists.proofs.Joined.{length-joined, part-joined}
+use Rattle.lists.proofs.Folding.{fold-more, fold-same}
+use Rattle.lists.proofs.Joined.{Written, written-part, length-joined, part-joined}
+use Rattle.lists.proofs.Parts.{row-fits, row-in, part-lent, lent-long}
 use Rattle.numbers.specs.Number.{_*ᶠ_}
 use Rattle.numbers.specs.Slice.{at}
 use Rattle.numbers.proofs.Products.{product-comm}
 use Rattle.matrix.specs.Product.{cell, sumOf, matVecOf, rowMatOf, transposedOf}
 use Rattle.matrix.proofs.Sums.{sum-same}
-use Rattle.matrix.proofs.Transposes.{length-transposed, transposed}
-use Rattle.gate_set.specs.GateSet.{stateIn, gateIn, through, measured, probabilitiesOf, columnsIn, probabilitiesBy}
+use Rattle.matrix.proofs.Transposes.{length-transposed, transposed-whole, transposed}
+use Rattle.gate_set.specs.GateSet.{stateIn, gateIn, through, measured, probabilitiesOf, columnsIn, Lying, probabilitiesBy}
 
 pub length-columns-in : (d e gates : ℕ) (m : List Float) → length (columnsIn d e gates m) ≡ gates * (d * d)
 unfolding columnsIn
@@ -32,12 +36,54 @@ pub length-probabilities-by : (d e : ℕ) (m columns : List Float) (sequence : L
 unfolding probabilitiesBy
 length-probabilities-by d e m columns sequence = length-measured d e m _
 
+-- effect k lies within a model
+pub effect-within : (d e k : ℕ) (m : List Float) → k < e → d + e * d ≤ length m → d + k * d + d ≤ length m
+effect-within d e k m h l = omega (arith, row-in k e d h)
+
 -- a state was loaded, put through a sequence and measured
 pub run-measured : (d e : ℕ) (m columns : List Float) (sequence : List ℕ) (out s x y : List Float) → s ≡ stateIn d m
     → x ≡ through (λ g y. rowMatOf d y (part (g * (d * d)) (d * d) columns)) sequence s → length x ≡ d → y ≡ measured (length x) e m x ++ drop e out
     → y ≡ probabilitiesBy d e m columns sequence ++ drop e out
 unfolding probabilitiesBy
 run-measured d e m columns sequence out s x y a b k c = c ∙ rw (k, b, a)
+
+-- gate k of a sequence, by columns
+abbrev pub gateBy : ℕ → List Float → List ℕ → ℕ → List Float → List Float
+gateBy d columns sequence k y = rowMatOf d y (part (getD sequence k 0 * (d * d)) (d * d) columns)
+
+module _ (d : ℕ) (columns : List Float) (sequence : List ℕ) (k : ℕ) where
+  -- where it lies
+  abbrev start : ℕ
+  start = getD sequence k 0 * (d * d)
+
+  -- it was lent whole
+  pub gate-lent : Lying d columns sequence → k < length sequence → d * d ≤ length (take (start + d * d - start) (drop start columns))
+  gate-lent h l = le-of-eq (sym (lent-long start (start + d * d) (d * d) columns refl (h k l)))
+
+  -- one more gate
+  pub gate-more : (s x y : List Float) → x ≡ fold k (gateBy d columns sequence) s → y ≡ rowMatOf d x (take (start + d * d - start) (drop start columns)) → y ≡ fold (k + 1) (gateBy d columns sequence) s
+  gate-more s x y e f = fold-more (gateBy d columns sequence) k s x y e (f ∙ ap (rowMatOf d x) (part-lent start (start + d * d) (d * d) columns refl))
+
+-- gate g of a model and its room, each lent whole
+pub gate-taken : (d e gates g : ℕ) (m : List Float) → g < gates → d + e * d + gates * (d * d) ≤ length m → d * d ≤ length (take (d + e * d + g * (d * d) + d * d - (d + e * d + g * (d * d))) (drop (d + e * d + g * (d * d)) m))
+gate-taken d e gates g m h l =
+    le-of-eq (sym (lent-long (d + e * d + g * (d * d)) (d + e * d + g * (d * d) + d * d) (d * d) m refl (omega (arith, row-in g gates (d * d) h))))
+
+pub gate-room : (d gates g : ℕ) (o out : List Float) → g < gates → gates * (d * d) ≤ length o → length out ≡ length o → d * d ≤ length (take (g * (d * d) + d * d - g * (d * d)) (drop (g * (d * d)) out))
+gate-room d gates g o out h l k = le-of-eq (sym (lent-long (g * (d * d)) (g * (d * d) + d * d) (d * d) out refl (omega (arith, row-fits g gates (d * d) (length o) h l))))
+
+-- gate g was lent, transposed and put behind the gates before it
+pub gate-written : (d e gates g : ℕ) (m o out y : List Float) → g < gates → gates * (d * d) ≤ length o → length out ≡ length o → Written (λ g. transposedOf d (gateIn d e m g)) o g out
+    → y
+    ≡ transposedOf d (take (d + e * d + g * (d * d) + d * d - (d + e * d + g * (d * d))) (drop (d + e * d + g * (d * d)) m))
+    ++ drop (d * d) (take (g * (d * d) + d * d - g * (d * d)) (drop (g * (d * d)) out))
+    → Written (λ g. transposedOf d (gateIn d e m g)) o (g + 1) (take (g * (d * d)) out ++ (y ++ drop (g * (d * d) + d * d - g * (d * d)) (drop (g * (d * d)) out)))
+unfolding columnsIn
+gate-written d e gates g m o out y h l k w f =
+    written-part (λ g. transposedOf d (gateIn d e m g)) o g (d * d) (g * (d * d)) (g * (d * d) + d * d) out y (length-columns-in d e g m) refl (length-transposed d (gateIn d e m g)) w
+    (f
+    ∙ transposed-whole d _ (take (g * (d * d) + d * d - g * (d * d)) (drop (g * (d * d)) out)) (lent-long (g * (d * d)) (g * (d * d) + d * d) (d * d) out refl (omega (arith, row-fits g gates (d * d) (length o) h l)))
+    ∙ ap (transposedOf d) (part-lent (d + e * d + g * (d * d)) (d + e * d + g * (d * d) + d * d) (d * d) m refl))
 
 by-columns : (d : ℕ) (x a : List Float) → rowMatOf d x (transposedOf d a) ≡ matVecOf d a x
 unfolding rowMatOf matVecOf

@@ -20,7 +20,7 @@ use Rattle.inversion.proofs.Reductions.{length-inverse}
 use Rattle.card_layout.specs.declared.Header.{Header}
 use Rattle.card_parts.specs.Model.{transformOf}
 use Rattle.model_words.specs.Words.{modelNumbers}
-use Rattle.gauge.specs.Gauge.{thresholdOf, invertedOf, inverseIn, stateIn, effectIn, gateIn, transformed, newModel, gaugedOf, gaugedNumbers}
+use Rattle.gauge.specs.Gauge.{thresholdOf, invertedOf, inverseIn, newState, newEffect, newGate, transformed, newModel, gaugedOf, gaugedNumbers}
 use Rattle.gauge.proofs.Lengths.{state-in-length, vectors-length, transformed-length}
 
 module _ (d : ℕ) (t : List Float) where
@@ -58,14 +58,14 @@ module _ (d : ℕ) (t : List Float) where
 
 -- the state, then the effects, then the gates were written, each behind the one before
 pub parts-written : (t i : List Float) (s : List ℕ) (h : Header) (d v e f : ℕ) (l a b x y : List Float) → h .dimension ≡ d → h .dimension + h .effects * h .dimension ≡ v → e ≡ length a → f ≡ length b
-    → a ≡ over (stateIn t s h) l
-    → x ≡ over (joined (h .effects) (effectIn i s h)) (take (e - d) (drop d a)) → b ≡ take d a ++ (x ++ drop (e - d) (drop d a))
-    → y ≡ over (joined (h .gates) (gateIn t i s h)) (take (f - v) (drop v b))
+    → a ≡ over (newState t s h) l
+    → x ≡ over (joined (h .effects) (newEffect i s h)) (take (e - d) (drop d a)) → b ≡ take d a ++ (x ++ drop (e - d) (drop d a))
+    → y ≡ over (joined (h .gates) (newGate t i s h)) (take (f - v) (drop v b))
     → take v b ++ (y ++ drop (f - v) (drop v b)) ≡ over (transformed t i s h) l
 unfolding transformed
 parts-written t i s h d v e f l a b x y q p k m aw xw bw yw =
-    over-onto (stateIn t s h ++ joined (h .effects) (effectIn i s h)) (joined (h .gates) (gateIn t i s h)) l v f b y (vectors-length s h t i ∙ p) m
-    (bw ∙ over-onto (stateIn t s h) (joined (h .effects) (effectIn i s h)) l d e a x (state-in-length s h t i ∙ q) k aw xw)
+    over-onto (newState t s h ++ joined (h .effects) (newEffect i s h)) (joined (h .gates) (newGate t i s h)) l v f b y (vectors-length s h t i ∙ p) m
+    (bw ∙ over-onto (newState t s h) (joined (h .effects) (newEffect i s h)) l d e a x (state-in-length s h t i ∙ q) k aw xw)
     yw
 
 -- ---- the whole

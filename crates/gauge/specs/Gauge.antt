@@ -33,18 +33,18 @@ unfoldable pub inverseIn : ℕ → List Float → List Float
 inverseIn d t = cond (not (allFinite t)) [] (inverseOf d (thresholdOf d) t)
 
 -- the parts of the card's model under the transform t with the inverse i
-unfoldable pub stateIn : List Float → List ℕ → Header → List Float
-stateIn t s h = matVecOf (h .dimension) t (stateOf s h)
+unfoldable pub newState : List Float → List ℕ → Header → List Float
+newState t s h = matVecOf (h .dimension) t (stateOf s h)
 
-unfoldable pub effectIn : List Float → List ℕ → Header → ℕ → List Float
-effectIn i s h k = rowMatOf (h .dimension) (effectOf s h k) i
+unfoldable pub newEffect : List Float → List ℕ → Header → ℕ → List Float
+newEffect i s h k = rowMatOf (h .dimension) (effectOf s h k) i
 
-unfoldable pub gateIn : List Float → List Float → List ℕ → Header → ℕ → List Float
-gateIn t i s h g = matMulOf (h .dimension) (matMulOf (h .dimension) t (gateOf s h g)) i
+unfoldable pub newGate : List Float → List Float → List ℕ → Header → ℕ → List Float
+newGate t i s h g = matMulOf (h .dimension) (matMulOf (h .dimension) t (gateOf s h g)) i
 
 -- all numbers of the new model: the state's, the effects', the gates'
 unfoldable pub transformed : List Float → List Float → List ℕ → Header → List Float
-transformed t i s h = (stateIn t s h ++ joined (h .effects) (effectIn i s h)) ++ joined (h .gates) (gateIn t i s h)
+transformed t i s h = (newState t s h ++ joined (h .effects) (newEffect i s h)) ++ joined (h .gates) (newGate t i s h)
 
 -- the new model's numbers
 unfoldable pub newModel : List ℕ → Header → List Float

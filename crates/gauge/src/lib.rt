@@ -17,7 +17,7 @@ ghost use Rattle.card_places.specs.Shape.{Shaped};
 ghost use Rattle.model_words.specs.Words.{modelNumbers};
 ghost use Rattle.refusal.specs.Verdicts.{finiteOr};
 ghost use Rattle.refusal.specs.declared.Refusal.the-variants.{NonFinite};
-ghost use Rattle.gauge.specs.Gauge.{thresholdOf, invertedOf, inverseIn, stateIn, effectIn, gateIn, transformed, gaugedOf, gaugedNumbers};
+ghost use Rattle.gauge.specs.Gauge.{thresholdOf, invertedOf, inverseIn, newState, newEffect, newGate, transformed, gaugedOf, gaugedNumbers};
 
 // The Rust's threshold for pivots in `invert_real`.
 fn threshold(d: usize) -> f64
@@ -58,7 +58,7 @@ fn invert_transform(transform: &[f64], d: usize, inverse: &mut [f64]) -> Verdict
 
 fn transform_state(card: &[u8], h: Header, transform: &[f64], out: &mut [f64])
     requires { ⌜ Shaped (now card) h × (5 ≤ h .kind) × (h .dimension * h .dimension ≤ length (now transform)) × (h .dimension ≤ length (now out)) ⌝ }
-    ensures { λ _. ⌜ now (out .exit) ≡ over (stateIn (now (transform .entry)) (now (card .entry)) h) (now (out .entry)) ⌝ }
+    ensures { λ _. ⌜ now (out .exit) ≡ over (newState (now (transform .entry)) (now (card .entry)) h) (now (out .entry)) ⌝ }
 {
     let d = h.dimension;
     let mut state = vector_room();
@@ -68,7 +68,7 @@ fn transform_state(card: &[u8], h: Header, transform: &[f64], out: &mut [f64])
 
 fn transform_effect(card: &[u8], h: Header, k: usize, inverse: &[f64], out: &mut [f64])
     requires { ⌜ Shaped (now card) h × (k < h .effects) × (h .dimension * h .dimension ≤ length (now inverse)) × (h .dimension ≤ length (now out)) ⌝ }
-    ensures { λ _. ⌜ now (out .exit) ≡ over (effectIn (now (inverse .entry)) (now (card .entry)) h k) (now (out .entry)) ⌝ }
+    ensures { λ _. ⌜ now (out .exit) ≡ over (newEffect (now (inverse .entry)) (now (card .entry)) h k) (now (out .entry)) ⌝ }
 {
     let d = h.dimension;
     let mut effect = vector_room();
@@ -78,7 +78,7 @@ fn transform_effect(card: &[u8], h: Header, k: usize, inverse: &[f64], out: &mut
 
 fn transform_effects(card: &[u8], h: Header, inverse: &[f64], out: &mut [f64])
     requires { ⌜ Shaped (now card) h × (h .dimension * h .dimension ≤ length (now inverse)) × (h .effects * h .dimension ≤ length (now out)) ⌝ }
-    ensures { λ _. ⌜ now (out .exit) ≡ over (joined (h .effects) (effectIn (now (inverse .entry)) (now (card .entry)) h)) (now (out .entry)) ⌝ }
+    ensures { λ _. ⌜ now (out .exit) ≡ over (joined (h .effects) (newEffect (now (inverse .entry)) (now (card .entry)) h)) (now (out .entry)) ⌝ }
 {
     let count = h.effects;
     let d = h.dimension;
@@ -99,7 +99,7 @@ fn transform_gate<'a>(
     out: &mut [f64],
 )
     requires { ⌜ Shaped (now card) h × (g < h .gates) × (h .dimension * h .dimension ≤ length (now transform)) × (h .dimension * h .dimension ≤ length (now inverse)) × (h .dimension * h .dimension ≤ length (now left)) × (h .dimension * h .dimension ≤ length (now out)) ⌝ }
-    ensures { λ _. ⌜ now (out .exit) ≡ over (gateIn (now (transform .entry)) (now (inverse .entry)) (now (card .entry)) h g) (now (out .entry)) ⌝ }
+    ensures { λ _. ⌜ now (out .exit) ≡ over (newGate (now (transform .entry)) (now (inverse .entry)) (now (card .entry)) h g) (now (out .entry)) ⌝ }
 {
     let d = h.dimension;
     let m = square(d);
@@ -116,7 +116,7 @@ fn transform_gates<'a>(
     out: &mut [f64],
 )
     requires { ⌜ Shaped (now card) h × (h .dimension * h .dimension ≤ length (now transform)) × (h .dimension * h .dimension ≤ length (now inverse)) × (h .gates * (h .dimension * h .dimension) ≤ length (now out)) ⌝ }
-    ensures { λ _. ⌜ now (out .exit) ≡ over (joined (h .gates) (gateIn (now (transform .entry)) (now (inverse .entry)) (now (card .entry)) h)) (now (out .entry)) ⌝ }
+    ensures { λ _. ⌜ now (out .exit) ≡ over (joined (h .gates) (newGate (now (transform .entry)) (now (inverse .entry)) (now (card .entry)) h)) (now (out .entry)) ⌝ }
 {
     let count = h.gates;
     let m = square(h.dimension);

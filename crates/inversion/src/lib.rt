@@ -93,7 +93,7 @@ fn invert_within(a: &[f64], n: usize, threshold: f64, work: &mut [f64], out: &mu
     requires { ⌜ (n ≤ 16) × (n * n ≤ length (now a)) × (n * (2 * n) ≤ length (now work)) × (n * n ≤ length (now out)) ⌝ }
     ensures { λ r. ⌜ (r ≡ invertible n threshold (now (a .entry))) × (now (out .exit) ≡ over (inverseOf n threshold (now (a .entry))) (now (out .entry))) ⌝ }
 {
-    let scale = pivots::scale_of(a, n * n);
+    let scale = pivots::scale_of(a, n);
     if scale == 0.0 {
         return false;
     }

@@ -7,7 +7,7 @@ use sizes::four_to;
 use sizes::square;
 use sizes::three_to;
 ghost use mathlib.Core.Path.{_≡_};
-ghost use Prim.Native.Nat.{_^_, _≤_, _<_};
+ghost use Prim.Native.Nat.{_≤_, _<_};
 ghost use lib.ListN.{length};
 ghost use Rattle.lists.specs.Build.{over};
 ghost use Rattle.outcome.specs.Outcome.{inRoom, Gives, Call};

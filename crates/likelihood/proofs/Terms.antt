@@ -2,13 +2,10 @@
 use mathlib.Core.Path.{_≡_, refl}
 use mathlib.Core.Bool.{Bool, true, false}
 use lib.Ieee.{Float, ofBits, ofInt}
-use Rattle.numbers.specs.Number.{number, _+ᶠ_, _*ᶠ_, _/ᶠ_}
+use Rattle.numbers.specs.Number.{twoF, _+ᶠ_, _*ᶠ_, _/ᶠ_}
 use Rattle.rounding.specs.Units.{whole}
 use Rattle.likelihood.specs.declared.Diagnostics.{Diagnostics}
 use Rattle.likelihood.specs.Multinomial.{plusTerm}
-
-abbrev twoF : Float
-twoF = number 0x4000000000000000
 
 two : twoF ≡ whole 2
 unfolding ofBits ofInt

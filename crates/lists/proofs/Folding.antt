@@ -2,7 +2,7 @@
 use mathlib.Core.Path.{_≡_, refl, _∙_, ap, subst}
 use mathlib.Core.Logic.{⊎-elim}
 use Prim.Native.Nat.{ℕ, zero, suc, _+_, _≤_, _<_}
-use native.Mathlib.Nat.{eq-or-lt-of-le}
+use native.Mathlib.Nat.{eq-or-lt-of-le, add-zero, add-suc}
 use native.Mathlib.Numerals.{add-one}
 use native.Mathlib.Omega.{arith}
 use lib.ListN.{getD}
@@ -28,6 +28,12 @@ module _ {S : Type 0} (f : ℕ → S → S) where
   unfolding fold
   fold-keeps P zero s p h = p
   fold-keeps P (suc n) s p h = h n (fold n f s) (omega arith) (fold-keeps P n s p (λ i t l q. h i t (omega arith) q))
+
+  -- n turns after the first a
+  pub fold-on : (a n : ℕ) (s : S) → fold (a + n) f s ≡ fold n (λ k. f (a + k)) (fold a f s)
+  unfolding fold
+  fold-on a zero s = ap (λ (k : ℕ). fold k f s) (add-zero a)
+  fold-on a (suc n) s = ap (λ (k : ℕ). fold k f s) (add-suc a n) ∙ ap (f (a + n)) (fold-on a n s)
 
   -- a state that no turn changes
   pub fold-stays : (x : S) → ((i : ℕ) → f i x ≡ x) → (n i : ℕ) (s : S) → i ≤ n → fold i f s ≡ x → fold n f s ≡ x

@@ -6,7 +6,7 @@ use Prim.Native.Nat.{ℕ, _+_, _-_, _*_, _^_, _≤_, _<_}
 use lib.ListN.{getD}
 use lib.Ieee.{Float, lt, le}
 use Rattle.lists.specs.Build.{build}
-use Rattle.numbers.specs.Number.{number, finite, zeroF}
+use Rattle.numbers.specs.Number.{finite, zeroF, halfF, twoF}
 use Rattle.rounding.specs.Near.{Within, Near}
 use Rattle.logarithm.specs.Series.{lnEntry, lnPlus, lnMinus}
 use Rattle.logarithm.specs.Steps.{quotientOf, remainderOf}
@@ -29,4 +29,4 @@ pub record LnNear (d : ℕ) (x r : Float) : Type 0 where
 -- 2 ^ 22 units of the logarithm, the error is then below 2 ^ -40 and below 2 ^ -48, as document 01 has it.
 pub record LnError (x r : Float) : Type 0 where
   pub everywhere : finite x ≡ true → lt zeroF x ≡ true → LnNear (2 ^ 1033) x r
-  pub between : le (number 0x3fe0000000000000) x ≡ true → le x (number 0x4000000000000000) ≡ true → LnNear (2 ^ 1025) x r
+  pub between : le halfF x ≡ true → le x twoF ≡ true → LnNear (2 ^ 1025) x r

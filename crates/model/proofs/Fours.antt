@@ -7,24 +7,13 @@ use native.Mathlib.Nat.{add-zero, add-assoc}
 use native.Mathlib.Omega.{arith}
 use borrow.Author.Tests.{not-true, not-false}
 use lib.Ieee.{Float}
+use Rattle.booleans.proofs.Joined.{and-true, and-assoc, and-no}
 use Rattle.lists.specs.Build.{from, build}
 use Rattle.lists.proofs.Filling.{build-none, build-same}
 use Rattle.lists.proofs.Rows.{build-append}
 use Rattle.numbers.specs.Number.{number, finite}
 use Rattle.numbers.specs.Word.{wordAt}
 use Rattle.numbers.specs.Slice.{numberAt, numbersAt, allFinite}
-
-and-true : (a : Bool) → (a && true) ≡ a
-and-true true = refl
-and-true false = refl
-
-and-false : (a : Bool) → (a && false) ≡ false
-and-false true = refl
-and-false false = refl
-
-and-assoc : (a b c : Bool) → ((a && b) && c) ≡ (a && (b && c))
-and-assoc true b c = refl
-and-assoc false b c = refl
 
 four-built : (f : ℕ → Float) (x y z t : Float) → x ≡ f 0 → y ≡ f 1 → z ≡ f 2 → t ≡ f 3 → x ∷ y ∷ z ∷ t ∷ [] ≡ build 4 f
 unfolding build from
@@ -47,7 +36,7 @@ run-parts s p a b n h = ap (λ (k : ℕ). allFinite (numbersAt s p k)) h ∙ ap 
 pub run-stop : (s : List ℕ) (p a b n : ℕ) → a + b ≤ n → allFinite (numbersAt s (p + a) b) ≡ false → false ≡ allFinite (numbersAt s p n)
 run-stop s p a b n h e =
     let f : allFinite (numbersAt s (p + a) (n - a)) ≡ false = run-parts s (p + a) b (n - a - b) (n - a) (omega arith) ∙ ap (λ (x : Bool). x && allFinite (numbersAt s (p + a + b) (n - a - b))) e in
-    sym (run-parts s p a (n - a) n (omega arith) ∙ ap (λ (x : Bool). allFinite (numbersAt s p a) && x) f ∙ and-false (allFinite (numbersAt s p a)))
+    sym (run-parts s p a (n - a) n (omega arith) ∙ ap (λ (x : Bool). allFinite (numbersAt s p a) && x) f ∙ and-no (allFinite (numbersAt s p a)) false refl)
 
 pub run-on : (s : List ℕ) (p a b n : ℕ) (r : Bool) → n ≡ a + b → allFinite (numbersAt s p a) ≡ true → r ≡ allFinite (numbersAt s (p + a) b) → r ≡ allFinite (numbersAt s p n)
 run-on s p a b n r h e f = f ∙ sym (run-parts s p a b n h ∙ ap (λ (x : Bool). x && allFinite (numbersAt s (p + a) b)) e)

@@ -1,29 +1,34 @@
 -- Four numbers, tested and stored together. Assumes nothing.
-use mathlib.Core.Path.{_≡_, refl, sym, _∙_, subst}
-use mathlib.Core.Bool.{Bool, true, false, not, _&&_}
+use mathlib.Core.Path.{_≡_, _∙_}
+use mathlib.Core.Bool.{not}
 use mathlib.Core.List.{List, _++_, append-nil}
-use Prim.Native.Nat.{ℕ, _≤_}
+use Prim.Native.Nat.{ℕ, _%_, _≤_}
+use native.Mathlib.Nat.{le-trans}
 use native.Mathlib.Omega.{arith}
-use borrow.Author.Tests.{not-false}
 use lib.Dec.{T}
+use lib.Bits.{bitOr, or-add-and, and-le-l, and-le-r}
 use lib.ListN.{length, drop, set, drop-of-length-le}
-use lib.Ieee.{Float}
+use lib.Ieee.{Float, nanBits, binary64}
 use Rattle.lists.proofs.Filling.{Filled, fill-none, fill-more}
-use Rattle.numbers.specs.Slice.{noNan, noNans}
-use Rattle.numbers.proofs.Leaves.{clash}
+use Rattle.numbers.proofs.Leaves.{no-nan-word}
 
-both-hold : (a b : Bool) → (a && b) ≡ true → (a ≡ true) × (b ≡ true)
-both-hold true b e = (refl, e)
-both-hold false b e = clash e
+-- a word is no more than what it is ored into
+or-above : (a b : ℕ) → (a ≤ bitOr a b) × (b ≤ bitOr a b)
+or-above a b = (omega (arith, or-add-and a b, and-le-r a b), omega (arith, or-add-and a b, and-le-l a b))
 
--- none of four words holds a NaN
-pub none-nan : (a b c d : ℕ) {t : Bool} → t ≡ noNans a b c d → not t ≡ false → T (noNan a) × T (noNan b) × T (noNan c) × T (noNan d)
-unfolding noNans
+-- what is no more than t is no NaN
+module _ (t : ℕ) (h : t ≤ 0x7ff0_0000_0000_0000) where
+  no-nan-below : (w : ℕ) → w % 0x8000_0000_0000_0000 ≤ t → T (not (nanBits binary64 w))
+  no-nan-below w l = no-nan-word w (le-trans l h)
+
+-- so where four words ored are no more than infinity's, none of them is
+pub none-nan : (a b c d : ℕ) {t : ℕ} → t ≡ bitOr (bitOr (a % 0x8000_0000_0000_0000) (b % 0x8000_0000_0000_0000)) (bitOr (c % 0x8000_0000_0000_0000) (d % 0x8000_0000_0000_0000)) → t ≤ 0x7ff0_0000_0000_0000
+    → T (not (nanBits binary64 a)) × T (not (nanBits binary64 b)) × T (not (nanBits binary64 c)) × T (not (nanBits binary64 d))
 none-nan a b c d {t} e h =
-    let k = both-hold (noNan a && noNan b) (noNan c && noNan d) (sym e ∙ not-false t h) in
-    let l = both-hold (noNan a) (noNan b) (k .0) in
-    let m = both-hold (noNan c) (noNan d) (k .1) in
-    (subst T (sym (l .0)) tt, subst T (sym (l .1)) tt, subst T (sym (m .0)) tt, subst T (sym (m .1)) tt)
+    let p = or-above (a % 0x8000_0000_0000_0000) (b % 0x8000_0000_0000_0000) in
+    let q = or-above (c % 0x8000_0000_0000_0000) (d % 0x8000_0000_0000_0000) in
+    let r = or-above (bitOr (a % 0x8000_0000_0000_0000) (b % 0x8000_0000_0000_0000)) (bitOr (c % 0x8000_0000_0000_0000) (d % 0x8000_0000_0000_0000)) in
+    (no-nan-below t h a (rw e (le-trans (p .0) (r .0))), no-nan-below t h b (rw e (le-trans (p .1) (r .0))), no-nan-below t h c (rw e (le-trans (q .0) (r .1))), no-nan-below t h d (rw e (le-trans (q .1) (r .1))))
 
 -- a list of four is all filled
 pub four-whole : (x d : List Float) {y : List Float} → length d ≡ 4 → y ≡ x ++ drop 4 d → y ≡ x

@@ -1,4 +1,5 @@
 pub mod Leaves
+pub mod Vanishing
 pub mod Finite
 pub mod Products
 pub mod Slices

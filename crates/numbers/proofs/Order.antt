@@ -10,45 +10,34 @@ use lib.Ieee.{Float, nan, inf, fin, up, down, lt, le, below, level}
 use lib.Ieee.Fits.{down-pos}
 use lib.Ieee.Positive.{through}
 use borrow.Author.Tests.{ltb-true, eqb-true, le-ltb}
+use Rattle.booleans.proofs.Joined.{or-cases, and-both}
 use Rattle.numbers.specs.Number.{negative}
 use Rattle.numbers.proofs.Leaves.{clash}
 
-either : (a b : Bool) → a || b ≡ true → (a ≡ true) ⊎ (b ≡ true)
-either true b h = inl refl
-either false b h = inr h
-
-first : (a b : Bool) → a && b ≡ true → a ≡ true
-first true b h = refl
-first false b h = clash h
-
-second : (a b : Bool) → a && b ≡ true → b ≡ true
-second true b h = h
-second false b h = clash h
-
 -- ±a ≤ ±b by their sizes
 pub plain-le : (a b : ℕ) (r : Bool) → ltb a b || (eqb a b && r) ≡ true → a ≤ b
-plain-le a b r h = go (either (ltb a b) (eqb a b && r) h)
+plain-le a b r h = go (or-cases (ltb a b) (eqb a b && r) h)
   where
     go : (ltb a b ≡ true) ⊎ (eqb a b && r ≡ true) → a ≤ b
     go (inl e) = le-of-lt (ltb-true a b e)
-    go (inr e) = le-of-eq (eqb-true a b (first (eqb a b) r e))
+    go (inr e) = le-of-eq (eqb-true a b (and-both (eqb a b) r e .0))
 
 -- a ≤ -b: both are zero
 zeros : (a b : ℕ) → eqb a b && eqb a 0 ≡ true → (a ≡ 0) × (b ≡ 0)
 zeros a b h =
-    let p : a ≡ b = eqb-true a b (first (eqb a b) (eqb a 0) h) in
-    let q : a ≡ 0 = eqb-true a 0 (second (eqb a b) (eqb a 0) h) in
+    let p : a ≡ b = eqb-true a b (and-both (eqb a b) (eqb a 0) h .0) in
+    let q : a ≡ 0 = eqb-true a 0 (and-both (eqb a b) (eqb a 0) h .1) in
     (q, omega arith)
 
 signed : (s t : Bool) (a b : ℕ) → below s a t b || level s a t b ≡ true → below t b s a ≡ false
 signed false false a b h = le-ltb b a (plain-le a b _ h)
 signed false true a b h = let z = zeros a b h in le-ltb 0 (b + a) (omega arith)
 signed true false a b h = refl
-signed true true a b h = go (either (ltb b a) _ h)
+signed true true a b h = go (or-cases (ltb b a) _ h)
   where
     go : (ltb b a ≡ true) ⊎ (eqb a b && true ≡ true) → ltb a b ≡ false
     go (inl e) = let l : b < a = ltb-true b a e in le-ltb a b (omega arith)
-    go (inr e) = let l : a ≡ b = eqb-true a b (first (eqb a b) true e) in le-ltb a b (omega arith)
+    go (inr e) = let l : a ≡ b = eqb-true a b (and-both (eqb a b) true e .0) in le-ltb a b (omega arith)
 
 pub not-above : (x y : Float) → le x y ≡ true → lt y x ≡ false
 unfolding le lt

@@ -12,15 +12,21 @@ number w = Ieee.ofBits binary64 w
 abbrev pub word : Float → ℕ
 word x = Ieee.toBits binary64 x
 
--- +0, -0 and 1
+-- +0, -0, 1/2, 1 and 2
 abbrev pub zeroF : Float
 zeroF = number 0
 
 abbrev pub minusZeroF : Float
 minusZeroF = number 0x8000000000000000
 
+abbrev pub halfF : Float
+halfF = number 0x3fe0000000000000
+
 abbrev pub oneF : Float
 oneF = number 0x3ff0000000000000
+
+abbrev pub twoF : Float
+twoF = number 0x4000000000000000
 
 -- Rust's operators on f64, each rounded to nearest, ties to even
 infixl 20 _+ᶠ_ _-ᶠ_

@@ -1,9 +1,9 @@
 -- Numbers between a card's words, the work slice and the result's words.
-use mathlib.Core.Bool.{Bool, true, not, _&&_}
+use mathlib.Core.Bool.{Bool, true, _&&_}
 use mathlib.Core.List.{List, [], _∷_}
 use Prim.Native.Nat.{ℕ, _+_}
 use lib.ListN.{getD, length}
-use lib.Ieee.{Float, nan, nanBits, binary64}
+use lib.Ieee.{Float, nan}
 use Rattle.lists.specs.Build.{build}
 use Rattle.numbers.specs.Word.{wordAt}
 use Rattle.numbers.specs.Number.{number, word, finite, zeroF}
@@ -15,14 +15,6 @@ at xs i = getD xs i nan
 -- the number in word p of the card s
 abbrev pub numberAt : List ℕ → ℕ → Float
 numberAt s p = number (wordAt s p)
-
--- the word holds no NaN
-abbrev pub noNan : ℕ → Bool
-noNan w = not (nanBits binary64 w)
-
--- none of four words does
-unfoldable pub noNans : ℕ → ℕ → ℕ → ℕ → Bool
-noNans a b c d = (noNan a && noNan b) && (noNan c && noNan d)
 
 -- the n numbers from word p on
 unfoldable pub numbersAt : List ℕ → ℕ → ℕ → List Float

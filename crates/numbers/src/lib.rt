@@ -1,12 +1,14 @@
 // Words and numbers: a card's words, numbers and their words, and the leaves of document 01 on numbers.
+use booleans::both;
 ghost use mathlib.Core.Path.{_≡_};
-ghost use mathlib.Core.Bool.{true, _&&_};
 ghost use mathlib.Core.List.{_++_};
-ghost use Prim.Native.Nat.{_+_, _*_, _≤_, _<_};
+ghost use Prim.Native.Nat.{ℕ, _+_, _*_, _%_, _≤_, _<_};
+ghost use lib.Bits.{bitOr};
 ghost use lib.ListN.{length, getD, drop};
+ghost use Rattle.lists.specs.Build.{build};
 ghost use Rattle.numbers.specs.Word.{wordAt};
 ghost use Rattle.numbers.specs.Number.{number, word, finite, positive, abs, max, negative, precedes};
-ghost use Rattle.numbers.specs.Slice.{noNan, noNans, numbersAt, wordsOf, blank, allFinite};
+ghost use Rattle.numbers.specs.Slice.{at, numbersAt, wordsOf, blank, allFinite};
 
 fn byte(card: &[u8], i: usize) -> u64
     requires { ⌜ i < length (now card) ⌝ }
@@ -54,15 +56,11 @@ pub fn word_of(x: f64) -> u64
     }
 }
 
-// Neither a NaN nor an infinity.
+// Neither a NaN nor an infinity: of those alone a product with zero is no zero.
 pub fn is_finite(x: f64) -> bool
     ensures { λ r. ⌜ r ≡ finite x ⌝ }
 {
-    let infinity = 1.0 / 0.0;
-    if -infinity < x {
-        return x < infinity;
-    }
-    false
+    x * 0.0 == 0.0
 }
 
 // Finite and above zero.
@@ -136,15 +134,6 @@ pub fn comes_before(x: f64, y: f64) -> bool
     is_negative(x) && !is_negative(y)
 }
 
-fn both(a: bool, b: bool) -> bool
-    ensures { λ r. ⌜ r ≡ (a && b) ⌝ }
-{
-    if a {
-        return b;
-    }
-    false
-}
-
 // Whether the number that a word holds is finite.
 pub fn is_finite_word(w: u64) -> bool
     ensures { λ r. ⌜ r ≡ finite (number w) ⌝ }
@@ -161,25 +150,15 @@ fn load_each(card: &[u8], from: usize, n: usize, out: &mut [f64])
     }
 }
 
-fn is_no_nan(w: u64) -> bool
-    ensures { λ r. ⌜ r ≡ noNan w ⌝ }
+// Four words without their signs, ored. None of them is above that.
+fn sizes_ored(a: u64, b: u64, c: u64, d: u64) -> u64
+    ensures { λ r. ⌜ r ≡ bitOr (bitOr (a % 0x8000_0000_0000_0000) (b % 0x8000_0000_0000_0000)) (bitOr (c % 0x8000_0000_0000_0000) (d % 0x8000_0000_0000_0000)) ⌝ }
 {
-    if w % 0x8000_0000_0000_0000 > 0x7ff0_0000_0000_0000 {
-        return false;
-    }
-    true
+    let m = 0x8000_0000_0000_0000;
+    (a % m | b % m) | (c % m | d % m)
 }
 
-fn are_no_nans(a: u64, b: u64, c: u64, d: u64) -> bool
-    ensures { λ r. ⌜ r ≡ noNans a b c d ⌝ }
-{
-    both(
-        both(is_no_nan(a), is_no_nan(b)),
-        both(is_no_nan(c), is_no_nan(d)),
-    )
-}
-
-// Four numbers. Nearly always none is a NaN, and one test of all four leaves nothing to choose at each.
+// Four numbers. Nearly always one test shows that none is a NaN; where it does not, each is looked at.
 fn load_four(card: &[u8], from: usize, out: &mut [f64])
     requires { ⌜ ((from + 4) * 8 ≤ length (now card)) × (length (now out) ≡ 4) ⌝ }
     ensures { λ _. ⌜ now (out .exit) ≡ numbersAt (now (card .entry)) from 4 ⌝ }
@@ -188,7 +167,7 @@ fn load_four(card: &[u8], from: usize, out: &mut [f64])
     let b = word_at(card, from + 1);
     let c = word_at(card, from + 2);
     let d = word_at(card, from + 3);
-    if !are_no_nans(a, b, c, d) {
+    if sizes_ored(a, b, c, d) > 0x7ff0_0000_0000_0000 {
         load_each(card, from, 4, out);
         return;
     }
@@ -228,6 +207,18 @@ pub fn emit(numbers: &[f64], n: usize, result: &mut [u64])
 {
     for i in 0..n {
         result[i] = word_of(numbers[i]);
+    }
+}
+
+// The numbers of xs at the places that are listed.
+pub fn gather(xs: &[f64], places: &[usize], out: &mut [f64])
+    requires { ⌜ (length (now out) ≤ length (now places)) × ((k : ℕ) → k < length (now out) → getD (now places) k 0 < length (now xs)) ⌝ }
+    ensures { λ _. ⌜ now (out .exit) ≡ build (length (now (out .entry))) (λ k. at (now (xs .entry)) (getD (now (places .entry)) k 0)) ⌝ }
+{
+    let n = out.len();
+    for k in 0..n {
+        let place = places[k];
+        out[k] = xs[place];
     }
 }
 

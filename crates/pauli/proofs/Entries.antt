@@ -6,9 +6,9 @@ use native.Mathlib.Nat.{two-pow-succ}
 use native.Mathlib.Omega.{arith}
 use lib.Dec.{eqb, lit<}
 use borrow.Author.Tests.{eq-eqb, ne-eqb, eqb-true, eqb-false}
-use lib.IntN.{ℤ, zero-*ℤ, *ℤ-zero}
+use lib.IntN.{zero-*ℤ, *ℤ-zero}
 use Rattle.lists.proofs.Choices.{yes, no}
-use Rattle.pauli.specs.Exact.{Gaussian, none, one, i, product, pauliMatrices, pauliEntry, stringEntry}
+use Rattle.pauli.specs.Exact.{Gaussian, none, product, pauliMatrices, pauliEntry, stringEntry}
 use Rattle.pauli.specs.Entry.{flipped, turned, filledColumn, filledPower, powerOfI}
 use Rattle.pauli.proofs.Digits.{power-small}
 

@@ -8,7 +8,7 @@ ghost use Prim.Native.Nat.{_+_, _*_, _^_, _≤_, _<_};
 ghost use lib.ListN.{length};
 ghost use Rattle.lists.specs.Build.{over};
 ghost use Rattle.numbers.specs.Number.{finite};
-ghost use Rattle.numbers.specs.Slice.{at, allFinite};
+ghost use Rattle.numbers.specs.Slice.{allFinite};
 ghost use Rattle.pauli.specs.Entry.{flipped, turned, filledColumn, filledPower, unitOf, withEntry, AllPlain};
 ghost use Rattle.pauli.specs.Density.{weight, withString, densityOf, testedOf, vetOf, invertedOf, computedOf};
 

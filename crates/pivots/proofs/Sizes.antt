@@ -36,7 +36,7 @@ same-size F (fin true m e) z = go (ltb 0 (m * up e * 1 + 0 * down e)) refl
     go false h = subst (λ (k : ℕ). F (fin true k e) ≡ F (fin false k e)) (sym (only-zero m e (ltb-false 0 _ h))) (z e)
 
 -- comparisons do not
-after-zero : (s : Float) (e : ℤ) → lt s (fin true 0 e) ≡ lt s (fin false 0 e)
+pub after-zero : (s : Float) (e : ℤ) → lt s (fin true 0 e) ≡ lt s (fin false 0 e)
 unfolding lt
 after-zero nan e = refl
 after-zero (inf t) e = refl
@@ -99,7 +99,7 @@ either-way true q x y = refl
 either-way false true x y = refl
 either-way false false x y = refl
 
-larger-size : (s y : Float) → Sized s → cond (lt s y) y s ≡ max s y
+pub larger-size : (s y : Float) → Sized s → cond (lt s y) y s ≡ max s y
 unfolding max isNan lt negative
 larger-size nan y h = absurd h
 larger-size (inf true) y h = absurd h
@@ -114,7 +114,7 @@ larger-size (fin false m e) (inf false) h = refl
 larger-size (fin false m e) (fin true n d) h = either-way false (ltb 0 (n * up d * down e + m * up e * down d)) (fin false m e) (fin true n d)
 larger-size (fin false m e) (fin false n d) h = either-way (ltb (m * up e * down d) (n * up d * down e)) (ltb (n * up d * down e) (m * up e * down d)) (fin false m e) (fin false n d)
 
-not-below-zero : (s : Float) (e : ℤ) → Sized s → lt s (fin true 0 e) ≡ false
+pub not-below-zero : (s : Float) (e : ℤ) → Sized s → lt s (fin true 0 e) ≡ false
 unfolding lt
 not-below-zero nan e h = refl
 not-below-zero (inf true) e h = absurd h
@@ -129,7 +129,7 @@ same-larger s x h =
     ∙ larger-size s (abs x) h
 
 -- and is of that kind again
-one-of : (b : Bool) (x y : Float) → Sized x → Sized y → Sized (cond b x y)
+pub one-of : (b : Bool) (x y : Float) → Sized x → Sized y → Sized (cond b x y)
 one-of true x y h k = h
 one-of false x y h k = k
 

@@ -27,14 +27,28 @@ fn larger(s: f64, x: f64) -> f64
     s
 }
 
-// The largest size of the first m numbers.
-pub fn scale_of(a: &[f64], m: usize) -> f64
-    requires { ⌜ m ≤ length (now a) ⌝ }
-    ensures { λ r. ⌜ r ≡ scaleOf m (now (a .entry)) ⌝ }
+// The largest size of a row.
+fn row_scale(row: &[f64]) -> f64
+    ensures { λ r. ⌜ r ≡ scaleOf (length (now (row .entry))) (now (row .entry)) ⌝ }
+{
+    let n = row.len();
+    let mut s = 0.0;
+    for k in 0..n {
+        s = larger(s, size_of(row[k]));
+    }
+    s
+}
+
+// The largest size of n rows of n numbers. Each row starts from zero, so that the processor need not wait for the row before.
+pub fn scale_of(a: &[f64], n: usize) -> f64
+    requires { ⌜ (n ≤ 16) × (n * n ≤ length (now a)) ⌝ }
+    ensures { λ r. ⌜ r ≡ scaleOf (n * n) (now (a .entry)) ⌝ }
 {
     let mut s = 0.0;
-    for k in 0..m {
-        s = larger(s, size_of(a[k]));
+    for i in 0..n {
+        let start = i * n;
+        let end = start + n;
+        s = larger(s, row_scale(&a[start..end]));
     }
     s
 }

@@ -12,7 +12,7 @@ use Rattle.refusal.specs.declared.Verdict.{Verdict}
 use Rattle.refusal.specs.declared.Verdict.the-variants.{Good, Refused}
 use Rattle.refusal.specs.Verdicts.{firstOf, checkedNumbers}
 use Rattle.entries.specs.Entries.{entries}
-use Rattle.eigen.specs.Jacobi.{Values, values, eigenvaluesOf, toldValues}
+use Rattle.eigen.specs.Jacobi.{Values, eigenvaluesOf, toldValues}
 use Rattle.choi.specs.Choi.{choiOf, choiTested, normalizedChoi, choiNumbers}
 use Rattle.choi.proofs.Values.{good-choi, length-choi}
 use Rattle.lists.specs.Build.{over}

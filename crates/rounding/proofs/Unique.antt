@@ -1,12 +1,12 @@
 -- Numbers by their values: what is written in one way, what rounding leaves as it is, and sums to which a zero is added. Assumes nothing.
 use mathlib.Core.Path.{_≡_, refl, sym, _∙_, ap, ap₂, subst}
-use mathlib.Core.Bool.{Bool, not, _&&_, cond}
-use Prim.Native.Nat.{ℕ, zero, suc, _+_, _-_, _*_, _/_, _%_, _^_, _<_, _≤_}
+use mathlib.Core.Bool.{Bool, _&&_, cond}
+use Prim.Native.Nat.{ℕ, suc, _+_, _-_, _*_, _/_, _%_, _^_, _<_, _≤_}
 use native.Mathlib.Nat.{mul-one, mul-assoc, mul-comm, mul-right-comm, eq-of-mul-eq-mul-right, mul-lt-mul-of-pos-right}
 use lib.IntN.{ℤ, pos, negsuc}
 use lib.Dec.{T, leb, ltb, eqb, leb→le, ltb→lt}
 use lib.Pow.{pow-pos, pow-add}
-use lib.Ieee.{Float, nan, inf, fin, Format, prec, emax, low, up, down, size, units, round, fits, toBits, ofBits, top, hid}
+use lib.Ieee.{Float, nan, inf, fin, Format, prec, emax, low, up, down, size, round, fits, toBits, ofBits, top, hid}
 use lib.Ieee.Bits.{ofBits-toBits}
 use lib.Ieee.Digits.{back}
 use lib.Ieee.Exact.{HasValue, round-exact}

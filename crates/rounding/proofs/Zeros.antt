@@ -1,6 +1,6 @@
 -- Sums to which a zero is added. A sum from +0 never becomes -0, so a zero of either sign added to it changes nothing. Assumes nothing.
 use mathlib.Core.Path.{_≡_, refl, sym, _∙_, ap, ap₂, subst}
-use mathlib.Core.Bool.{Bool, true, false, not, cond}
+use mathlib.Core.Bool.{Bool, true, false, cond}
 use mathlib.Core.Logic.{_⊎_, inl, inr}
 use Prim.Native.Nat.{ℕ, zero, suc, _+_, _-_, _*_, _/_, _%_, _^_, _<_, _≤_, compare}
 use native.Mathlib.Nat.{zero-mul, mul-one, one-mul, mul-pos, mul-assoc, mul-comm, mul-right-comm, add-zero, zero-lt-suc, le-div-iff-mul-le, add-mul, mul-le-mul-right, lt-irrefl, lt-of-lt-of-le, sub-zero, mul-lt-mul-of-pos-right, lt-of-mul-lt-mul-right, mul-sub, suc-mul, le-mul-of-pos-right}
@@ -50,9 +50,9 @@ sum-zeros f true a c z p = rw z (round-zero f false c p)
 sum-zeros f false a c z p = rw z (round-zero f false c p)
 
 -- a number that is not zero, and a zero
-own : (s : Bool) (m : ℕ) (e : ℤ) (t : Bool) → T (fits binary64 (fin s (suc m) e)) → add binary64 (fin s (suc m) e) (fin t 0 (pos 0)) ≡ fin s (suc m) e
+pub own-last : (s : Bool) (m : ℕ) (e : ℤ) (t : Bool) → T (fits binary64 (fin s (suc m) e)) → add binary64 (fin s (suc m) e) (fin t 0 (pos 0)) ≡ fin s (suc m) e
 unfolding add
-own s m e t h =
+own-last s m e t h =
     let a = suc m * up e * 1 in
     let c = down e * 1 in
     ap (λ (z : ℕ). sum binary64 s a t z c) (zero-mul (down e))
@@ -68,8 +68,8 @@ add-nothing (fin false zero e) t h p =
     ap (λ (z : ℕ). sum binary64 false (0 * up e * 1) t z (down e * 1)) (zero-mul (down e))
     ∙ sum-zeros binary64 t (0 * up e * 1) (down e * 1) (mul-one (0 * up e) ∙ zero-mul (up e)) (mul-pos (down-pos e) (pow-pos 0))
     ∙ ap (λ (z : ℤ). fin false 0 z) (sym (zero-exponent false e h))
-add-nothing (fin true (suc m) e) t h p = own true m e t h
-add-nothing (fin false (suc m) e) t h p = own false m e t h
+add-nothing (fin true (suc m) e) t h p = own-last true m e t h
+add-nothing (fin false (suc m) e) t h p = own-last false m e t h
 
 -- ---- a sum from +0 never becomes -0
 

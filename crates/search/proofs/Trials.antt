@@ -9,14 +9,14 @@ use lib.Ieee.{Float, lt}
 use Rattle.lists.specs.Build.{build}
 use Rattle.lists.specs.Fold.{fold}
 use Rattle.lists.proofs.Folding.{fold-stays}
-use Rattle.numbers.specs.Number.{_-ᶠ_, _*ᶠ_}
+use Rattle.numbers.specs.Number.{halfF, _-ᶠ_, _*ᶠ_}
 use Rattle.numbers.specs.Slice.{at}
 use Rattle.refusal.specs.declared.Refusal.{Refusal}
 use Rattle.descent.specs.declared.Evaluated.{Evaluated}
 use Rattle.descent.specs.declared.Evaluated.the-variants.{Value, Passed, Broken}
 use Rattle.descent.specs.declared.Search.{Search}
 use Rattle.descent.specs.declared.Search.the-variants.{Searching, Found, Lost}
-use Rattle.descent.specs.Fit.{Job, size, backtracks, halfF, evaluate, stepLength, trial, judged, onward, searchTo}
+use Rattle.descent.specs.Fit.{Job, size, backtracks, evaluate, stepLength, trial, judged, onward, searchTo}
 use Rattle.descent.proofs.Laws.{split}
 use Rattle.search.specs.Found.{FoundAt}
 

@@ -10,7 +10,7 @@ ghost use Rattle.lists.specs.Build.{build};
 ghost use Rattle.numbers.specs.Number.{_-ᶠ_, _*ᶠ_};
 ghost use Rattle.numbers.specs.Slice.{at};
 ghost use Rattle.descent.specs.Fit as spec;
-ghost use Rattle.evaluation.specs.Job.{jobBy, Lent};
+ghost use Rattle.objective.specs.Job.{jobBy, Lent};
 ghost use Rattle.search.specs.Found.{FoundAt};
 
 // The coordinates xs less s times g.

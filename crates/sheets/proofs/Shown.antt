@@ -49,14 +49,11 @@ parts-most d h = omega (arith, mul-le-mul {n₁ = d} {m₁ = d} {n₂ = 8} {m₂
 
 -- a card's model has at most 2,320 numbers and 2,328 words
 module _ (h : Header) (l : Limited h) where
-  dims : h .dimension * h .dimension ≤ 256
-  dims = product-le (h .dimension) (h .dimension) 16 16 (l .dimension) (l .dimension)
-
   pub numbers-most : modelNumbers h ≤ 2320
-  numbers-most = omega (arith, product-le (h .effects) (h .dimension) 16 16 (l .effects) (l .dimension), product-le (h .gates) (h .dimension * h .dimension) 8 256 (l .gates) dims, l .dimension)
+  numbers-most = omega (arith, product-le (h .effects) (h .dimension) 16 16 (l .effects) (l .dimension), product-le (h .gates) (h .dimension * h .dimension) 8 256 (l .gates) (square-most (h .dimension) (l .dimension)), l .dimension)
 
   pub words-most : modelWords h ≤ 2328
-  words-most = omega (arith, product-le (h .effects) (h .dimension) 16 16 (l .effects) (l .dimension), product-le (h .gates) (1 + h .dimension * h .dimension) 8 257 (l .gates) (omega (arith, dims)), l .dimension)
+  words-most = omega (arith, product-le (h .effects) (h .dimension) 16 16 (l .effects) (l .dimension), product-le (h .gates) (1 + h .dimension * h .dimension) 8 257 (l .gates) (omega (arith, square-most (h .dimension) (l .dimension))), l .dimension)
 
 -- the parts of a density matrix of up to three qubits
 pub two-most : (n : ℕ) → n ≤ 3 → 2 * (2 ^ n * 2 ^ n) ≤ 128

@@ -1,8 +1,7 @@
 // The stable sort of numbers, rising or falling: their order, as indices, and the sorted numbers.
 ghost use mathlib.Core.Path.{_≡_};
-ghost use Prim.Native.Nat.{ℕ, _≤_, _<_};
-ghost use lib.ListN.{length, getD, take};
-ghost use Rattle.lists.specs.Build.{build};
+ghost use Prim.Native.Nat.{_≤_, _<_};
+ghost use lib.ListN.{length, take};
 ghost use Rattle.numbers.specs.Slice.{at};
 ghost use Rattle.sorting.specs.Sort.{before, orderBy, sortedBy};
 ghost use Rattle.sorting.specs.Steps.{shift, shifted, inserted};
@@ -81,23 +80,11 @@ fn sort(falling: bool, w: &[f64], n: usize, order: &mut [usize])
     }
 }
 
-// The numbers of w in this order.
-fn values(w: &[f64], order: &[usize], s: &mut [f64])
-    requires { ⌜ (length (now s) ≤ length (now order)) × ((k : ℕ) → k < length (now s) → getD (now order) k 0 < length (now w)) ⌝ }
-    ensures { λ _. ⌜ now (s .exit) ≡ build (length (now (s .entry))) (λ k. at (now (w .entry)) (getD (now (order .entry)) k 0)) ⌝ }
-{
-    let n = s.len();
-    for k in 0..n {
-        let i = order[k];
-        s[k] = w[i];
-    }
-}
-
 // The order of the numbers of w, and the numbers in it, into s.
 pub fn arrange(falling: bool, w: &[f64], order: &mut [usize], s: &mut [f64])
     requires { ⌜ (length (now order) ≡ length (now w)) × (length (now s) ≡ length (now w)) ⌝ }
     ensures { λ _. ⌜ (now (order .exit) ≡ orderBy falling (now (w .entry)) (length (now (w .entry)))) × (now (s .exit) ≡ sortedBy falling (now (w .entry))) ⌝ }
 {
     sort(falling, w, w.len(), order);
-    values(w, order, s);
+    numbers::gather(w, order, s);
 }

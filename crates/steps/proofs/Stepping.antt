@@ -22,7 +22,7 @@ use Rattle.descent.specs.declared.Search.{Search}
 use Rattle.descent.specs.declared.Search.the-variants.{Searching, Found, Lost}
 use Rattle.descent.specs.Fit.{Job, Point, State, going, stopped, slopes, unusable, size, backtracks, gradient, norm, flat, trial, searchTo, small, searched, stepBy, step}
 use Rattle.descent.proofs.Laws.{split}
-use Rattle.evaluation.specs.Job.{slopesOf}
+use Rattle.objective.specs.Job.{slopesOf}
 use Rattle.evaluation.proofs.Slopes.{norm-by}
 use Rattle.search.specs.Found.{FoundAt}
 use Rattle.steps.specs.declared.Status.{Status}

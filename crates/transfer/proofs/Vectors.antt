@@ -2,7 +2,7 @@
 use Prim.Native.Nat.{ℕ, _+_, _*_, _≤_, _<_}
 use mathlib.Core.Path.{_≡_, ap, _∙_}
 use mathlib.Core.List.{List}
-use native.Mathlib.Nat.{mul-assoc, mul-le-mul}
+use native.Mathlib.Nat.{mul-assoc}
 use native.Mathlib.Omega.{arith}
 use lib.Ieee.{Float}
 use Rattle.lists.specs.Fold.{fold}
@@ -17,9 +17,6 @@ use Rattle.transfer.specs.Vectors.{vectorOf, vettedOf}
 -- vector k of 2 p lies within 2 p p numbers
 pub vector-fits : (k p : ℕ) → k < 2 * p → k * p + p ≤ 2 * (p * p)
 vector-fits k p h = omega (arith, row-fits k (2 * p) p (2 * p * p) h (omega arith), mul-assoc 2 p p)
-
-pub square-most : (p : ℕ) → p ≤ 16 → p * p ≤ 256
-square-most p h = mul-le-mul h h
 
 module _ (t : Float) (v : List Float) (p : ℕ) where
   -- what was found in the first k vectors

@@ -5,16 +5,13 @@ use mathlib.Core.List.{List}
 use Prim.Native.Nat.{ℕ}
 use lib.Dec.{eqb}
 use lib.Ieee.{Float, neg, le}
-use Rattle.numbers.specs.Number.{number, zeroF, oneF, _+ᶠ_, _-ᶠ_, _*ᶠ_, _/ᶠ_}
+use Rattle.numbers.specs.Number.{zeroF, oneF, twoF, _+ᶠ_, _-ᶠ_, _*ᶠ_, _/ᶠ_}
 use Rattle.root.specs.Root.{sqrt}
 use Rattle.complex.specs.declared.Complex.{Complex}
 use Rattle.complex.specs.Arithmetic.{plus, minus, times, scaled, divided, conjugate}
 use Rattle.entries.specs.Entries.{entryAt, matrix}
 use Rattle.magnitudes.specs.declared.Pivot.{Pivot}
 use Rattle.turns.specs.declared.Turn.{Turn}
-
-abbrev pub twoF : Float
-twoF = number 0x4000000000000000
 
 abbrev pub real : Float → Complex
 real x = record { re = x; im = zeroF }

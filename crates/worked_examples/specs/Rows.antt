@@ -24,7 +24,7 @@ use Rattle.inversion.specs.Inversion.{besideAt, besideIdentity, columnReduced, 
 use Rattle.card_parts.specs.Model.{modelOf, stateOf, effectOf, nameOf, gateOf, transformOf}
 use Rattle.model.specs.Checked.{anyOf, checkedOf}
 use Rattle.model_words.specs.Words.{numbersOf, gateWords, gatesWords, modelWordsOf}
-use Rattle.gauge.specs.Gauge.{thresholdOf, invertedOf, inverseIn, stateIn, effectIn, gateIn, transformed, newModel, gaugedOf}
+use Rattle.gauge.specs.Gauge.{thresholdOf, invertedOf, inverseIn, newState, newEffect, newGate, transformed, newModel, gaugedOf}
 use Rattle.rounding.specs.Units.{unitsOf}
 use Rattle.significand.specs.Significand.{significandOf, exponentOf}
 use Rattle.root.specs.Root.{floorRoot, nearRoot, rootOf, sqrt}
@@ -99,5 +99,5 @@ rows =
     ∷ []
 
 pub rows-right : Right rows
-unfolding card isNan from build joined fold wordAt finite positive abs max negative precedes numbersAt wordsOf blank allFinite times modelRoles recordRoles afterWord0 layout breaks faulty unknown limitsOf past noMatrix word0Breaks qubitsBreak sequenceBreaks indicesBreak modelAt header examined wordAtFault sizeAtFault atFault lowest faultOf lengthRead readOf product pauliMatrices stringEntry pinned weight densityPart densityOf vetOf admitted testedOf sumOf dotOf matVecOf rowMatOf matMulOf swapped dividedRow lessRow eliminatedRow eliminated clearedBy scaleOf largerRow pivotRow besideAt besideIdentity columnReduced reductionOf rightHalves invertible inverseOf modelOf stateOf effectOf nameOf gateOf transformOf anyOf checkedOf numbersOf gateWords gatesWords modelWordsOf thresholdOf invertedOf inverseIn stateIn effectIn gateIn transformed newModel gaugedOf finiteOr checkedNumbers unitsOf significandOf exponentOf floorRoot nearRoot rootOf sqrt plus minus complexTimes scaled divided conjugate min magnitude entries partsOf matrix scaleBy matrixScale larger pivotIn pivotOf tangent turnOf turnedP turnedQ columnsAt columnsTurned turnedAt turned before insert orderBy sortedBy excess sumFrom stays activeCount threshold lowered filling jacobi unitVectorAt unit diagonal columnsIn ascending eigOf ascendingValues eigenvaluesOf coefficient term choiPart choiOf choiTested noneBelow choiValues toleranceOf positivityVerdict completelyPositive unitAt near nearUnit tracePreserving unital halvedAt halved termAt mixedAt mixed spectralNumbers spectralVerdict admission projectedVerdict projectedNumbers densitySheet projectedSheet processSheetOf physicalOf gaugeVerdict gaugeSheet through measured probabilitiesOf presentOf badProbability anyBad failing clamped totalOf countedOf plusTerm withTerm withTerms withRecord countsOf recordOnward likelihoodBy nested ln1p lnRatio entryOf poly lnPart lnOf lnBy ln sequenceOf countIn toleranceSheet diagnosticsSheet configOf goodConfig hasEntry placeOf placesOf repeated parameterVerdict parametersVerdict requestVerdict coordinateIn coordinateBreaks put usable distance objectiveOf evaluate displacement derivative gradient norm stepLength trial searchTo step afterSteps closed fitOf fitWords requestSheet fitSheet modelSheet kindSheet sheetOf ofBits ofFields odd toBits add sub mul div neg sum round units lt le eq span climb size ofInt
+unfolding card isNan from build joined fold wordAt finite positive abs max negative precedes numbersAt wordsOf blank allFinite times modelRoles recordRoles afterWord0 layout breaks faulty unknown limitsOf past noMatrix word0Breaks qubitsBreak sequenceBreaks indicesBreak modelAt header examined wordAtFault sizeAtFault atFault lowest faultOf lengthRead readOf product pauliMatrices stringEntry pinned weight densityPart densityOf vetOf admitted testedOf sumOf dotOf matVecOf rowMatOf matMulOf swapped dividedRow lessRow eliminatedRow eliminated clearedBy scaleOf largerRow pivotRow besideAt besideIdentity columnReduced reductionOf rightHalves invertible inverseOf modelOf stateOf effectOf nameOf gateOf transformOf anyOf checkedOf numbersOf gateWords gatesWords modelWordsOf thresholdOf invertedOf inverseIn newState newEffect newGate transformed newModel gaugedOf finiteOr checkedNumbers unitsOf significandOf exponentOf floorRoot nearRoot rootOf sqrt plus minus complexTimes scaled divided conjugate min magnitude entries partsOf matrix scaleBy matrixScale larger pivotIn pivotOf tangent turnOf turnedP turnedQ columnsAt columnsTurned turnedAt turned before insert orderBy sortedBy excess sumFrom stays activeCount threshold lowered filling jacobi unitVectorAt unit diagonal columnsIn ascending eigOf ascendingValues eigenvaluesOf coefficient term choiPart choiOf choiTested noneBelow choiValues toleranceOf positivityVerdict completelyPositive unitAt near nearUnit tracePreserving unital halvedAt halved termAt mixedAt mixed spectralNumbers spectralVerdict admission projectedVerdict projectedNumbers densitySheet projectedSheet processSheetOf physicalOf gaugeVerdict gaugeSheet through measured probabilitiesOf presentOf badProbability anyBad failing clamped totalOf countedOf plusTerm withTerm withTerms withRecord countsOf recordOnward likelihoodBy nested ln1p lnRatio entryOf poly lnPart lnOf lnBy ln sequenceOf countIn toleranceSheet diagnosticsSheet configOf goodConfig hasEntry placeOf placesOf repeated parameterVerdict parametersVerdict requestVerdict coordinateIn coordinateBreaks put usable distance objectiveOf evaluate displacement derivative gradient norm stepLength trial searchTo step afterSteps closed fitOf fitWords requestSheet fitSheet modelSheet kindSheet sheetOf ofBits ofFields odd toBits add sub mul div neg sum round units lt le eq span climb size ofInt
 rows-right = (refl, (refl, (refl, (refl, (refl, (refl, (refl, (refl, (refl, (refl, (refl, (refl, (refl, tt)))))))))))))

@@ -1,6 +1,7 @@
 -- `density::add_row` meets its contract. Assumes nothing.
+use native.Mathlib.Numerals.{add-one-le, add-one-dec}
 use Prim.Native.Nat.{_≤_, _-_}
-use mathlib.Core.Path.{_≡_}
+use mathlib.Core.Path.{_≡_, _∙_, refl}
 use native.Mathlib.Omega.{arith}
 use lib.ListN.{length}
 use denote.Ref.{now}
@@ -22,7 +23,7 @@ abbrev μ-loop : tie.MeasureT-loop
 μ-loop x u n i out₀ j₀ out j = n - j
 
 loop-holds : tie.Need-loop-holds Inv-loop μ-loop
-loop-holds c = (search needs, search needs, fold-none _ _)
+loop-holds c = (search needs, refl, fold-none _ _)
 
 read-requires : tie.Need-read-requires Inv-loop μ-loop
 read-requires c κs = let s = c .before .before .before .before .before in omega (arith, entry-fits (s .args .i) (c .before .before .loop .j) (s .args .n) (s .args .n) (s .pre .2) (c .before .loop-test .taken))
@@ -43,13 +44,13 @@ add-j : tie.Need-add-j Inv-loop μ-loop
 add-j c = search needs
 
 loop-less : tie.Need-loop-less Inv-loop μ-loop
-loop-less c = search needs
+loop-less c = add-one-dec _ _ (c .before .before .before .before .before .before .before .before .before .loop-test .taken)
 
 loop-again : tie.Need-loop-again Inv-loop μ-loop
-loop-again c = let s = c .before .before .before .before .before .before .before .before .before .before .before .before .before .args in (search needs, search needs, fold-more _ _ _ _ _ (c .before .before .before .before .before .before .before .before .before .before .loop .inv .2) (entry-added (s .n) (s .x) (entries (now (s .u))) (s .i) (c .before .before .before .before .before .before .before .before .before .before .loop .j) (entries (c .before .before .before .before .before .before .before .before .before .before .loop .out)) _ _ _ _ _ (c .before .before .before .before .before .before .before .read .ensures) (c .before .before .before .before .before .before .get .ensures) (c .before .before .before .before .times .ensures) (c .before .before .before .plus .ensures) (c .before .before .write .ensures)))
+loop-again c = let s = c .before .before .before .before .before .before .before .before .before .before .before .before .before .args in (add-one-le (c .before .before .before .before .before .before .before .before .before .loop-test .taken), c .before .out .given ∙ c .before .before .before .before .before .before .before .before .before .before .loop .inv .1, fold-more _ _ _ _ _ (c .before .before .before .before .before .before .before .before .before .before .loop .inv .2) (entry-added (s .n) (s .x) (entries (now (s .u))) (s .i) (c .before .before .before .before .before .before .before .before .before .before .loop .j) (entries (c .before .before .before .before .before .before .before .before .before .before .loop .out)) _ _ _ _ _ (c .before .before .before .before .before .before .before .read .ensures) (c .before .before .before .before .before .before .get .ensures) (c .before .before .before .before .times .ensures) (c .before .before .before .plus .ensures) (c .before .before .write .ensures)))
 
 same-length : tie.Need-same-length Inv-loop μ-loop
-same-length c = search needs
+same-length c = c .before .loop .inv .1
 
 returns : tie.Need-returns Inv-loop μ-loop
 unfolding withRow changedRow

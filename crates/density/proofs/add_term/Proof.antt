@@ -1,6 +1,7 @@
 -- `density::add_term` meets its contract. Assumes nothing.
+use native.Mathlib.Numerals.{add-one-le, add-one-dec}
 use Prim.Native.Nat.{_≤_, _-_}
-use mathlib.Core.Path.{_≡_}
+use mathlib.Core.Path.{_≡_, _∙_, refl}
 use native.Mathlib.Omega.{arith}
 use lib.ListN.{length}
 use denote.Ref.{now}
@@ -22,10 +23,10 @@ abbrev μ-loop : tie.MeasureT-loop
 μ-loop v n k p u out₀ i₀ out i = n - i
 
 conjugate-column-requires : tie.Need-conjugate-column-requires Inv-loop μ-loop
-conjugate-column-requires c κs = search needs
+conjugate-column-requires c κs = (c .before .before .before .before .pre .0, c .before .before .before .before .pre .1, c .before .before .before .before .pre .3)
 
 loop-holds : tie.Need-loop-holds Inv-loop μ-loop
-loop-holds c = (search needs, search needs, fold-none _ _)
+loop-holds c = (search needs, refl, fold-none _ _)
 
 read-requires : tie.Need-read-requires Inv-loop μ-loop
 read-requires c κs = let s = c .before .before .before .before .before .before .before .before .before in omega (arith, entry-fits (c .before .loop .i) (s .args .k) (s .args .n) (s .args .n) (c .loop-test .taken) (s .pre .3))
@@ -34,22 +35,22 @@ scaled-requires : tie.Need-scaled-requires Inv-loop μ-loop
 scaled-requires c κs = search needs
 
 add-row-requires : tie.Need-add-row-requires Inv-loop μ-loop
-add-row-requires c κs = search needs
+add-row-requires c κs = (c .before .before .before .before .before .before .before .u .given ∙ c .before .before .before .before .before .before .before .before .before .before .before .before .before .pre .1, c .before .before .before .before .before .loop .inv .1 ∙ c .before .before .before .before .before .before .before .before .before .before .before .before .before .pre .2, c .before .before .before .before .loop-test .taken)
 
 add-i : tie.Need-add-i Inv-loop μ-loop
 add-i c = search needs
 
 loop-less : tie.Need-loop-less Inv-loop μ-loop
-loop-less c = search needs
+loop-less c = add-one-dec _ _ (c .before .before .before .before .before .before .before .loop-test .taken)
 
 loop-again : tie.Need-loop-again Inv-loop μ-loop
-loop-again c = let s = c .before .before .before .before .before .before .before .before .before .before .before .before .before .before .before .before .args in (search needs, search needs, fold-more _ _ _ _ _ (c .before .before .before .before .before .before .before .before .loop .inv .2) (row-added (s .n) (entries (now (s .v))) (s .k) (s .p) _ (c .before .before .before .before .before .before .before .before .loop .i) _ _ (entries (c .before .before .before .before .before .before .before .before .loop .out)) _ (c .before .before .before .before .before .before .before .before .before .before .before .conjugate-column .ensures) (c .before .before .before .before .before .before .read .ensures) (c .before .before .before .before .before .scaled .ensures) (c .before .before .add-row .ensures)))
+loop-again c = let s = c .before .before .before .before .before .before .before .before .before .before .before .before .before .before .before .before .args in (add-one-le (c .before .before .before .before .before .before .before .loop-test .taken), c .before .out .given ∙ c .before .before .before .before .before .before .before .before .loop .inv .1, fold-more _ _ _ _ _ (c .before .before .before .before .before .before .before .before .loop .inv .2) (row-added (s .n) (entries (now (s .v))) (s .k) (s .p) _ (c .before .before .before .before .before .before .before .before .loop .i) _ _ (entries (c .before .before .before .before .before .before .before .before .loop .out)) _ (c .before .before .before .before .before .before .before .before .before .before .before .conjugate-column .ensures) (c .before .before .before .before .before .before .read .ensures) (c .before .before .before .before .before .scaled .ensures) (c .before .before .add-row .ensures)))
 
 same-length : tie.Need-same-length Inv-loop μ-loop
-same-length c = search needs
+same-length c = c .before .before .before .u .given
 
 same-length-2 : tie.Need-same-length-2 Inv-loop μ-loop
-same-length-2 c = search needs
+same-length-2 c = c .before .loop .inv .1
 
 returns : tie.Need-returns Inv-loop μ-loop
 returns c = term-added _ _ _ _ _ _ _ (omega arith) (length-entries _ _ (c .before .before .before .before .before .before .before .before .before .pre .2)) (c .before .loop .inv .2)

@@ -1,6 +1,7 @@
 -- `density::conjugate_column` meets its contract. Assumes nothing.
+use native.Mathlib.Numerals.{add-one-le, add-one-dec}
 use Prim.Native.Nat.{_≤_, _-_}
-use mathlib.Core.Path.{_≡_}
+use mathlib.Core.Path.{_≡_, _∙_, refl}
 use native.Mathlib.Omega.{arith}
 use lib.ListN.{length}
 use denote.Ref.{now}
@@ -21,7 +22,7 @@ abbrev μ-loop : tie.MeasureT-loop
 μ-loop v n k u₀ j₀ u j = n - j
 
 loop-holds : tie.Need-loop-holds Inv-loop μ-loop
-loop-holds c = (search needs, search needs, fill-none _ _)
+loop-holds c = (search needs, refl, fill-none _ _)
 
 read-requires : tie.Need-read-requires Inv-loop μ-loop
 read-requires c κs = let s = c .before .before .before .before .before in omega (arith, entry-fits (c .before .before .loop .j) (s .args .k) (s .args .n) (s .args .n) (c .before .loop-test .taken) (s .pre .2))
@@ -36,13 +37,13 @@ add-j : tie.Need-add-j Inv-loop μ-loop
 add-j c = search needs
 
 loop-less : tie.Need-loop-less Inv-loop μ-loop
-loop-less c = search needs
+loop-less c = add-one-dec _ _ (c .before .before .before .before .before .before .loop-test .taken)
 
 loop-again : tie.Need-loop-again Inv-loop μ-loop
-loop-again c = let s = c .before .before .before .before .before .before .before .before .before .before in (search needs, search needs, column-more (s .args .n) (entries (now (s .args .v))) (s .args .k) _ _ _ _ _ _ (omega (arith, length-entries (s .args .n) (now (s .args .u)) (s .pre .1))) (c .before .before .before .before .before .before .before .loop .inv .2) (c .before .before .before .before .read .ensures) (c .before .before .before .conjugate .ensures) (c .before .before .put .ensures))
+loop-again c = let s = c .before .before .before .before .before .before .before .before .before .before in (add-one-le (c .before .before .before .before .before .before .loop-test .taken), c .before .u .given ∙ c .before .before .before .before .before .before .before .loop .inv .1, column-more (s .args .n) (entries (now (s .args .v))) (s .args .k) _ _ _ _ _ _ (omega (arith, length-entries (s .args .n) (now (s .args .u)) (s .pre .1))) (c .before .before .before .before .before .before .before .loop .inv .2) (c .before .before .before .before .read .ensures) (c .before .before .before .conjugate .ensures) (c .before .before .put .ensures))
 
 same-length : tie.Need-same-length Inv-loop μ-loop
-same-length c = search needs
+same-length c = c .before .loop .inv .1
 
 returns : tie.Need-returns Inv-loop μ-loop
 returns c = let s = c .before .before .before .before in column-all _ _ _ _ _ _ (omega arith) (length-entries _ _ (s .pre .1)) (c .before .loop .inv .2)

@@ -1,6 +1,7 @@
 -- `density::halve` meets its contract. Assumes nothing.
+use native.Mathlib.Numerals.{add-one-le, add-one-dec}
 use Prim.Native.Nat.{_≤_, _-_}
-use mathlib.Core.Path.{_≡_}
+use mathlib.Core.Path.{_≡_, _∙_, refl}
 use native.Mathlib.Omega.{arith}
 use lib.ListN.{length}
 use Rattle.lists.specs.Fold.{fold}
@@ -21,22 +22,22 @@ abbrev μ-loop : tie.MeasureT-loop
 μ-loop e n h₀ i₀ h i = n - i
 
 loop-holds : tie.Need-loop-holds Inv-loop μ-loop
-loop-holds c = (search needs, search needs, fold-none _ _)
+loop-holds c = (search needs, refl, fold-none _ _)
 
 halve-row-requires : tie.Need-halve-row-requires Inv-loop μ-loop
-halve-row-requires c κs = search needs
+halve-row-requires c κs = (c .before .before .before .before .before .pre .0, c .before .before .loop .inv .1 ∙ c .before .before .before .before .before .pre .1, c .before .loop-test .taken)
 
 add-i : tie.Need-add-i Inv-loop μ-loop
 add-i c = search needs
 
 loop-less : tie.Need-loop-less Inv-loop μ-loop
-loop-less c = search needs
+loop-less c = add-one-dec _ _ (c .before .before .before .before .loop-test .taken)
 
 loop-again : tie.Need-loop-again Inv-loop μ-loop
-loop-again c = (search needs, search needs, fold-more _ _ _ _ _ (c .before .before .before .before .before .loop .inv .2) (c .before .before .halve-row .ensures))
+loop-again c = (add-one-le (c .before .before .before .before .loop-test .taken), c .before .h .given ∙ c .before .before .before .before .before .loop .inv .1, fold-more _ _ _ _ _ (c .before .before .before .before .before .loop .inv .2) (c .before .before .halve-row .ensures))
 
 same-length : tie.Need-same-length Inv-loop μ-loop
-same-length c = search needs
+same-length c = c .before .loop .inv .1
 
 returns : tie.Need-returns Inv-loop μ-loop
 unfolding halved

@@ -1,6 +1,7 @@
 -- `density::halve_row` meets its contract. Assumes nothing.
+use native.Mathlib.Numerals.{add-one-le, add-one-dec}
 use Prim.Native.Nat.{_≤_, _-_}
-use mathlib.Core.Path.{_≡_}
+use mathlib.Core.Path.{_≡_, _∙_, refl}
 use native.Mathlib.Omega.{arith}
 use lib.ListN.{length}
 use denote.Ref.{now}
@@ -22,7 +23,7 @@ abbrev μ-loop : tie.MeasureT-loop
 μ-loop e n i h₀ j₀ h j = n - j
 
 loop-holds : tie.Need-loop-holds Inv-loop μ-loop
-loop-holds c = (search needs, search needs, fold-none _ _)
+loop-holds c = (search needs, refl, fold-none _ _)
 
 halved-at-requires : tie.Need-halved-at-requires Inv-loop μ-loop
 halved-at-requires c κs = search needs
@@ -34,13 +35,13 @@ add-j : tie.Need-add-j Inv-loop μ-loop
 add-j c = search needs
 
 loop-less : tie.Need-loop-less Inv-loop μ-loop
-loop-less c = search needs
+loop-less c = add-one-dec _ _ (c .before .before .before .before .before .loop-test .taken)
 
 loop-again : tie.Need-loop-again Inv-loop μ-loop
-loop-again c = let s = c .before .before .before .before .before .before .before .before .before .args in (search needs, search needs, fold-more _ _ _ _ _ (c .before .before .before .before .before .before .loop .inv .2) (put-laid (s .n) (halvedAt (s .n) (entries (now (s .e)))) (s .i) (c .before .before .before .before .before .before .loop .j) (entries (c .before .before .before .before .before .before .loop .h)) _ _ (c .before .before .write .ensures) (c .before .before .before .halved-at .ensures)))
+loop-again c = let s = c .before .before .before .before .before .before .before .before .before .args in (add-one-le (c .before .before .before .before .before .loop-test .taken), c .before .h .given ∙ c .before .before .before .before .before .before .loop .inv .1, fold-more _ _ _ _ _ (c .before .before .before .before .before .before .loop .inv .2) (put-laid (s .n) (halvedAt (s .n) (entries (now (s .e)))) (s .i) (c .before .before .before .before .before .before .loop .j) (entries (c .before .before .before .before .before .before .loop .h)) _ _ (c .before .before .write .ensures) (c .before .before .before .halved-at .ensures)))
 
 same-length : tie.Need-same-length Inv-loop μ-loop
-same-length c = search needs
+same-length c = c .before .loop .inv .1
 
 returns : tie.Need-returns Inv-loop μ-loop
 unfolding laidRow

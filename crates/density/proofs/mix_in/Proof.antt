@@ -1,6 +1,7 @@
 -- `density::mix_in` meets its contract. Assumes nothing.
+use native.Mathlib.Numerals.{add-one-le, add-one-dec}
 use Prim.Native.Nat.{_≤_, _-_, _*_}
-use mathlib.Core.Path.{_≡_, _∙_, ap}
+use mathlib.Core.Path.{_≡_, _∙_, ap, refl}
 use native.Mathlib.Omega.{arith}
 use lib.ListN.{length}
 use denote.Ref.{now}
@@ -22,7 +23,7 @@ clear-requires : tie.Need-clear-requires Inv-loop μ-loop
 clear-requires c κs = search needs
 
 loop-holds : tie.Need-loop-holds Inv-loop μ-loop
-loop-holds c = (search needs, search needs, search needs, fold-none _ _)
+loop-holds c = (search needs, refl, refl, fold-none _ _)
 
 mul-add-term : tie.Need-mul-add-term Inv-loop μ-loop
 mul-add-term c = search needs
@@ -31,22 +32,22 @@ shared-slice-read-add-term : tie.Need-shared-slice-read-add-term Inv-loop μ-loo
 shared-slice-read-add-term c = search needs
 
 add-term-requires : tie.Need-add-term-requires Inv-loop μ-loop
-add-term-requires c κs = search needs
+add-term-requires c κs = (c .before .before .before .before .before .before .before .before .before .before .before .before .before .pre .0, c .before .before .before .before .loop .inv .1 ∙ c .before .before .before .before .before .before .before .before .before .before .before .before .before .pre .2, c .before .before .before .before .loop .inv .2 ∙ c .before .before .before .before .before .before .out .given ∙ c .before .before .before .before .before .before .before .before .before .before .before .before .before .pre .3, c .before .before .before .loop-test .taken)
 
 add-k : tie.Need-add-k Inv-loop μ-loop
 add-k c = search needs
 
 loop-less : tie.Need-loop-less Inv-loop μ-loop
-loop-less c = search needs
+loop-less c = add-one-dec _ _ (c .before .before .before .before .before .before .before .before .loop-test .taken)
 
 loop-again : tie.Need-loop-again Inv-loop μ-loop
-loop-again c = (search needs, search needs, search needs, fold-more _ _ _ _ _ (c .before .before .before .before .before .before .before .before .before .loop .inv .3) (c .before .before .before .before .add-term .ensures))
+loop-again c = (add-one-le (c .before .before .before .before .before .before .before .before .loop-test .taken), c .before .before .before .u .given ∙ c .before .before .before .before .before .before .before .before .before .loop .inv .1, c .before .out2 .given ∙ c .before .before .before .before .before .before .before .before .before .loop .inv .2, fold-more _ _ _ _ _ (c .before .before .before .before .before .before .before .before .before .loop .inv .3) (c .before .before .before .before .add-term .ensures))
 
 same-length : tie.Need-same-length Inv-loop μ-loop
-same-length c = search needs
+same-length c = c .before .loop .inv .1
 
 same-length-2 : tie.Need-same-length-2 Inv-loop μ-loop
-same-length-2 c = search needs
+same-length-2 c = c .before .loop .inv .2 ∙ c .before .before .before .out .given
 
 returns : tie.Need-returns Inv-loop μ-loop
 returns c = let s = c .before .before .before .before .before .before .before .before .before .before in mixed-whole (s .args .n) (entries (now (s .args .v))) (now (s .args .p)) _ _ _ (omega arith) (ap entries (c .before .before .before .before .clear .ensures) ∙ zeros (s .args .n * s .args .n) (now (s .args .out)) (s .pre .3)) (c .before .loop .inv .3)

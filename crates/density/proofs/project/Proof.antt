@@ -46,10 +46,10 @@ project-onto-requires c κs =
     (s .pre .0, length-take-le _ _ (omega (arith, q)) ∙ e, length-take-le _ _ (search needs), length-take-le _ _ (omega (arith, q)) ∙ e, s .pre .1, s .pre .2, s .pre .3)
 
 same-length : tie.Need-same-length
-same-length c = search needs
+same-length c = c .before .out .given
 
 returns : tie.Need-returns
-returns c = search needs
+returns c = c .before .before .before .before .before .project-onto .ensures
 
 pub project-spec : {M : Type 1} → statement M
 project-spec =

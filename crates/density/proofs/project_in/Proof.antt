@@ -1,4 +1,6 @@
 -- `density::project_in` meets its contract. Assumes nothing.
+use native.Mathlib.Nat.{le-of-eq, le-trans}
+use mathlib.Core.Path.{_∙_}
 use denote.Ref.{now}
 use borrow.Author.Tests.{not-true, not-false}
 use Rattle.density.proofs.Outcome.{used-up, found}
@@ -7,40 +9,40 @@ use Rattle.density.proofs.project_in.Statement.{statement}
 use Rattle.density.proofs.project_in.Tie as tie
 
 halve-requires : tie.Need-halve-requires
-halve-requires c κs = search needs
+halve-requires c κs = (c .before .before .before .before .before .pre .0, c .before .before .before .before .before .pre .1)
 
 eigen-requires : tie.Need-eigen-requires
-eigen-requires c κs = search needs
+eigen-requires c κs = (c .before .before .before .v .given ∙ c .before .before .before .before .before .before .before .before .before .before .pre .1, c .before .before .before .before .before .before .before .before .before .before .pre .2, c .before .before .before .before .before .before .before .before .before .before .pre .4, c .before .before .before .before .before .before .before .before .before .before .pre .5)
 
 same-length : tie.Need-same-length
-same-length c = search needs
+same-length c = c .before .before .before .before .v2 .given ∙ c .before .before .before .before .before .before .before .before .before .v .given
 
 same-length-2 : tie.Need-same-length-2
-same-length-2 c = search needs
+same-length-2 c = c .before .before .w .given
 
 returns : tie.Need-returns
 returns c = used-up _ _ _ _ _ _ _ (c .before .before .before .before .before .before .before .before .before .before .halve .ensures) (c .before .before .before .before .before .eigen .ensures) (now (c .before .before .before .before .before .before .before .before .before .before .before .before .before .before .before .before .args .r)) (not-true _ (c .if1 .taken))
 
 fill-requires : tie.Need-fill-requires
-fill-requires c κs = search needs
+fill-requires c κs = le-trans (le-of-eq (c .before .before .before .w .given ∙ c .before .before .before .before .before .before .before .before .before .before .before .before .before .before .before .before .before .pre .2)) (c .before .before .before .before .before .before .before .before .before .before .before .before .before .before .before .before .before .pre .5)
 
 mix-requires : tie.Need-mix-requires
-mix-requires c κs = search needs
+mix-requires c κs = (c .before .before .before .before .before .before .before .before .before .before .before .v2 .given ∙ c .before .before .before .before .before .before .before .before .before .before .before .before .before .before .before .before .v .given ∙ c .before .before .before .before .before .before .before .before .before .before .before .before .before .before .before .before .before .before .before .before .before .before .before .pre .1, c .before .before .before .before .w2 .given ∙ c .before .before .before .before .before .before .before .before .before .w .given ∙ c .before .before .before .before .before .before .before .before .before .before .before .before .before .before .before .before .before .before .before .before .before .before .before .pre .2, c .before .before .before .before .before .before .before .before .before .before .before .before .before .before .before .before .before .before .before .before .before .before .before .pre .3, c .before .before .before .before .before .before .before .before .before .before .before .before .before .before .before .before .before .before .before .before .before .before .before .pre .5)
 
 finite-or-requires : tie.Need-finite-or-requires
 finite-or-requires c κs = search needs
 
 same-length-3 : tie.Need-same-length-3
-same-length-3 c = search needs
+same-length-3 c = c .before .before .before .before .before .before .before .before .before .before .before .before .before .before .before .before .v2 .given ∙ c .before .before .before .before .before .before .before .before .before .before .before .before .before .before .before .before .before .before .before .before .before .v .given
 
 same-length-4 : tie.Need-same-length-4
-same-length-4 c = search needs
+same-length-4 c = c .before .before .before .before .before .before .before .before .before .w2 .given ∙ c .before .before .before .before .before .before .before .before .before .before .before .before .before .before .w .given
 
 same-length-5 : tie.Need-same-length-5
-same-length-5 c = search needs
+same-length-5 c = c .before .before .before .r .given
 
 returns-2 : tie.Need-returns-2
-returns-2 c = found _ _ _ _ _ _ _ (c .before .before .before .before .before .before .before .before .before .before .before .before .before .before .before .before .before .before .before .before .before .before .halve .ensures) (c .before .before .before .before .before .before .before .before .before .before .before .before .before .before .before .before .before .eigen .ensures) _ _ _ (not-false _ (c .before .before .before .before .before .before .before .before .before .before .before .before .if1 .left)) (c .before .before .before .before .before .before .before .before .before .before .fill .ensures) (c .before .before .before .before .mix .ensures) (search needs) (c .finite-or .ensures)
+returns-2 c = found _ _ _ _ _ _ _ (c .before .before .before .before .before .before .before .before .before .before .before .before .before .before .before .before .before .before .before .before .before .before .halve .ensures) (c .before .before .before .before .before .before .before .before .before .before .before .before .before .before .before .before .before .eigen .ensures) _ _ _ (not-false _ (c .before .before .before .before .before .before .before .before .before .before .before .before .if1 .left)) (c .before .before .before .before .before .before .before .before .before .before .fill .ensures) (c .before .before .before .before .mix .ensures) (c .before .before .before .r .given ∙ c .before .before .before .before .before .before .before .before .before .before .before .before .before .before .before .before .before .before .before .before .before .before .before .before .before .before .before .before .pre .3) (c .finite-or .ensures)
 
 pub project-in-spec : {M : Type 1} → statement M
 project-in-spec =

@@ -6,7 +6,7 @@ use Rattle.density.proofs.project_onto.Statement.{statement}
 use Rattle.density.proofs.project_onto.Tie as tie
 
 project-in-requires : tie.Need-project-in-requires
-project-in-requires c κs = search needs
+project-in-requires c κs = (c .before .before .before .before .before .before .before .before .pre .0, c .before .before .before .before .before .before .before .before .pre .1, c .before .before .before .before .before .before .before .before .pre .2, c .before .before .before .before .before .before .before .before .pre .3, c .before .before .before .before .before .before .before .before .pre .4, c .before .before .before .before .before .before .before .before .pre .5)
 
 enum-known-found : tie.Need-enum-known-found
 enum-known-found c = search needs
@@ -18,28 +18,28 @@ copy-row-requires : tie.Need-copy-row-requires
 copy-row-requires c κs = search needs
 
 same-length : tie.Need-same-length
-same-length c = search needs
+same-length c = c .before .before .before .before .before .before .before .before .v .given
 
 same-length-2 : tie.Need-same-length-2
-same-length-2 c = search needs
+same-length-2 c = c .before .before .before .before .before .before .w .given
 
 same-length-3 : tie.Need-same-length-3
-same-length-3 c = search needs
+same-length-3 c = c .before .before .before .before .r .given
 
 returns : tie.Need-returns
 returns c = (sym (c .before .found .given .1) ∙ c .before .before .before .before .before .before .before .before .before .project-in .ensures .0, refl)
 
 same-length-4 : tie.Need-same-length-4
-same-length-4 c = search needs
+same-length-4 c = c .before .before .before .before .before .before .before .before .before .before .before .before .v .given
 
 same-length-5 : tie.Need-same-length-5
-same-length-5 c = search needs
+same-length-5 c = c .before .before .before .before .before .before .before .before .before .before .w .given
 
 same-length-6 : tie.Need-same-length-6
-same-length-6 c = search needs
+same-length-6 c = c .before .before .before .before .before .before .before .before .r .given
 
 same-length-7 : tie.Need-same-length-7
-same-length-7 c = search needs
+same-length-7 c = c .before .out .given
 
 returns-2 : tie.Need-returns-2
 returns-2 c = written _ _ _ _ _ _ (c .before .before .before .before .before .enum-told .given .1) (c .before .before .before .before .before .before .before .before .before .before .before .before .before .project-in .ensures) refl (c .before .before .copy-row .ensures)

@@ -4,36 +4,36 @@ use lib.Seq.{length-take-le}
 use Rattle.lists.proofs.Parts.{front-again}
 use Rattle.likelihood.specs.declared.Likelihood.the-variants.{Fit}
 use Rattle.diagnostics.proofs.Records.{absent, present}
-use borrow.Author.Needs.{needs}
+use Rattle.diagnostics.proofs.Rooms.{room-part}
 use Rattle.diagnostics.proofs.add_record.Statement.{statement}
 use Rattle.diagnostics.proofs.add_record.Tie as tie
 
 sequence-length-requires : tie.Need-sequence-length-requires
-sequence-length-requires c κs = search needs
+sequence-length-requires c κs = (c .before .before .before .before .before .before .pre .0, c .before .before .before .before .before .before .pre .1 .there)
 
 load-sequence-requires : tie.Need-load-sequence-requires
-load-sequence-requires c κs = search needs
+load-sequence-requires c κs = (c .before .before .before .before .before .before .before .before .pre .0, c .before .before .before .before .before .before .before .before .pre .1, c .before .sequence-length .ensures, room-part _ _ _ _ _ (c .before .sequence-length .ensures) (c .before .before .before .before .before .before .before .before .pre .1 .short) (c .before .before .before .before .before .before .before .before .pre .3) refl)
 
 slice-reshare-prefix-check-sequence : tie.Need-slice-reshare-prefix-check-sequence
-slice-reshare-prefix-check-sequence c = search needs
+slice-reshare-prefix-check-sequence c = room-part _ _ _ _ _ (c .before .before .before .before .sequence-length .ensures) (c .before .before .before .before .before .before .before .before .before .before .before .pre .1 .short) (c .before .before .before .before .before .before .before .before .before .before .before .pre .3) (c .before .before .load-sequence .kept .1 .1 .1 .1 .0)
 
 slice-aggregate-check-sequence : tie.Need-slice-aggregate-check-sequence
-slice-aggregate-check-sequence c = sym (length-take-le _ _ (search needs))
+slice-aggregate-check-sequence c = sym (length-take-le _ _ (room-part _ _ _ _ _ (c .before .before .before .before .before .sequence-length .ensures) (c .before .before .before .before .before .before .before .before .before .before .before .before .pre .1 .short) (c .before .before .before .before .before .before .before .before .before .before .before .before .pre .3) (c .before .before .before .load-sequence .kept .1 .1 .1 .1 .0)))
 
 check-sequence-requires : tie.Need-check-sequence-requires
-check-sequence-requires c κs = search needs
+check-sequence-requires c κs = tt
 
 enum-known-found : tie.Need-enum-known-found
-enum-known-found c = search needs
+enum-known-found c = c .match .keys1
 
 enum-told : tie.Need-enum-told
-enum-told c = search needs
+enum-told c = c .match .keys2
 
 slice-reshare-prefix-weigh-record : tie.Need-slice-reshare-prefix-weigh-record
-slice-reshare-prefix-weigh-record c = search needs
+slice-reshare-prefix-weigh-record c = room-part _ _ _ _ _ (c .before .before .before .before .before .before .before .before .sequence-length .ensures) (c .before .before .before .before .before .before .before .before .before .before .before .before .before .before .before .pre .1 .short) (c .before .before .before .before .before .before .before .before .before .before .before .before .before .before .before .pre .3) (c .before .before .before .before .before .before .load-sequence .kept .1 .1 .1 .1 .0)
 
 slice-aggregate-weigh-record : tie.Need-slice-aggregate-weigh-record
-slice-aggregate-weigh-record c = sym (length-take-le _ _ (search needs))
+slice-aggregate-weigh-record c = sym (length-take-le _ _ (room-part _ _ _ _ _ (c .before .before .before .before .before .before .before .before .before .sequence-length .ensures) (c .before .before .before .before .before .before .before .before .before .before .before .before .before .before .before .before .pre .1 .short) (c .before .before .before .before .before .before .before .before .before .before .before .before .before .before .before .before .pre .3) (c .before .before .before .before .before .before .before .load-sequence .kept .1 .1 .1 .1 .0)))
 
 weigh-record-requires : tie.Need-weigh-record-requires
 weigh-record-requires c κs =
@@ -41,19 +41,19 @@ weigh-record-requires c κs =
     (s .pre .0, s .pre .1 .there, s .pre .2, sym (c .before .before .before .before .before .check-sequence .ensures) ∙ c .before .before .before .enum-told .given .1, s .pre .4, s .pre .5)
 
 same-length : tie.Need-same-length
-same-length c = search needs
+same-length c = c .before .before .before .before .before .before .before .load-sequence .kept .1 .1 .1 .1 .0
 
 returns : tie.Need-returns
 returns c = absent _ _ _ _ _ _ _ _ _ (front-again _ _ (c .before .before .before .before .before .before .before .load-sequence .ensures) (sym (c .before .before .before .before .before .before .before .before .before .sequence-length .ensures))) (c .before .before .before .check-sequence .ensures) _ (c .before .found .given .1) (Fit _) _ refl
 
 same-length-2 : tie.Need-same-length-2
-same-length-2 c = search needs
+same-length-2 c = c .before .before .before .before .before .before .before .before .before .before .before .before .before .before .load-sequence .kept .1 .1 .1 .1 .0
 
 same-length-3 : tie.Need-same-length-3
-same-length-3 c = search needs
+same-length-3 c = c .before .before .before .before .weigh-record .kept .1 .1 .1 .1 .1 .1 .1 .1 .1 .1 .0
 
 same-length-4 : tie.Need-same-length-4
-same-length-4 c = search needs
+same-length-4 c = c .before .before .before .before .weigh-record .kept .1 .1 .1 .1 .1 .1 .1 .1 .1 .1 .1 .0
 
 returns-2 : tie.Need-returns-2
 returns-2 c = present _ _ _ _ _ _ _ _ _ (front-again _ _ (c .before .before .before .before .before .before .before .before .before .before .before .before .before .before .load-sequence .ensures) (sym (c .before .before .before .before .before .before .before .before .before .before .before .before .before .before .before .before .sequence-length .ensures))) (c .before .before .before .before .before .before .before .before .before .before .check-sequence .ensures) (c .before .before .before .before .before .before .before .before .enum-told .given .1) (Fit _) _ (c .before .before .before .before .weigh-record .ensures)

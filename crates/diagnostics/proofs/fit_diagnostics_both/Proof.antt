@@ -1,66 +1,64 @@
 -- `diagnostics::fit_diagnostics_both` meets its contract. Assumes nothing.
 use mathlib.Core.Path.{sym}
-use native.Mathlib.Nat.{mul-le-mul}
-use native.Mathlib.Omega.{arith}
 use lib.Seq.{length-take-le}
 use Rattle.diagnostics.proofs.Tables.{columns-lent, columns-over, by-logarithm}
-use borrow.Author.Needs.{needs}
+use Rattle.diagnostics.proofs.Rooms.{room-new, room-on, square-fits, gates-fit}
 use Rattle.diagnostics.proofs.fit_diagnostics_both.Statement.{statement}
 use Rattle.diagnostics.proofs.fit_diagnostics_both.Tie as tie
 
 mul-size : tie.Need-mul-size
-mul-size c = let s = c .before .before .before .before .before .pre .0 .limits in omega (arith, mul-le-mul (s .dimension) (s .dimension))
+mul-size c = square-fits (c .before .before .before .before .before .args .h) (c .before .before .before .before .before .pre .0 .limits)
 
 mul-size-2 : tie.Need-mul-size-2
-mul-size-2 c = search needs
+mul-size-2 c = gates-fit (c .before .before .before .before .before .args .h) (c .before .before .before .before .before .pre .0 .limits)
 
 gates-by-columns-requires : tie.Need-gates-by-columns-requires
-gates-by-columns-requires c κs = search needs
+gates-by-columns-requires c κs = let l = c .before .before .before .before .before .before .pre .0 .limits in (l .dimension, l .effects, l .gates, c .before .before .before .before .before .before .pre .2, c .before .before .before .before .before .before .pre .4)
 
 gates-by-columns-requires-2 : tie.Need-gates-by-columns-requires-2
-gates-by-columns-requires-2 c κs = search needs
+gates-by-columns-requires-2 c κs = let l = c .before .before .before .before .before .before .before .before .before .before .pre .0 .limits in (l .dimension, l .effects, l .gates, c .before .before .before .before .before .before .before .before .before .before .pre .3, c .before .before .before .before .before .before .before .before .before .before .pre .5)
 
 tables-requires : tie.Need-tables-requires
-tables-requires c κs = search needs
+tables-requires c κs = tt
 
 sequence-room-requires : tie.Need-sequence-room-requires
-sequence-room-requires c κs = search needs
+sequence-room-requires c κs = tt
 
 counts-room-requires : tie.Need-counts-room-requires
-counts-room-requires c κs = search needs
+counts-room-requires c κs = tt
 
 probabilities-room-requires : tie.Need-probabilities-room-requires
-probabilities-room-requires c κs = search needs
+probabilities-room-requires c κs = tt
 
 probabilities-room-requires-2 : tie.Need-probabilities-room-requires-2
-probabilities-room-requires-2 c κs = search needs
+probabilities-room-requires-2 c κs = tt
 
 slice-reshare-prefix-add-records-both : tie.Need-slice-reshare-prefix-add-records-both
-slice-reshare-prefix-add-records-both c = search needs
+slice-reshare-prefix-add-records-both c = room-on _ _ _ (c .before .before .before .before .before .before .before .before .before .before .before .before .before .before .before .before .before .before .before .before .before .pre .4) (c .before .before .before .before .before .before .before .before .before .before .before .before .before .before .gates-by-columns .kept .1 .1 .1 .1 .0)
 
 slice-aggregate-add-records-both : tie.Need-slice-aggregate-add-records-both
-slice-aggregate-add-records-both c = sym (length-take-le _ _ (search needs))
+slice-aggregate-add-records-both c = sym (length-take-le _ _ (room-on _ _ _ (c .before .before .before .before .before .before .before .before .before .before .before .before .before .before .before .before .before .before .before .before .before .before .pre .4) (c .before .before .before .before .before .before .before .before .before .before .before .before .before .before .before .gates-by-columns .kept .1 .1 .1 .1 .0)))
 
 slice-reshare-prefix-add-records-both-2 : tie.Need-slice-reshare-prefix-add-records-both-2
-slice-reshare-prefix-add-records-both-2 c = search needs
+slice-reshare-prefix-add-records-both-2 c = room-on _ _ _ (c .before .before .before .before .before .before .before .before .before .before .before .before .before .before .before .before .before .before .before .before .before .before .pre .5) (c .before .before .before .before .before .before .before .before .before .before .before .gates-by-columns2 .kept .1 .1 .1 .1 .0)
 
 slice-aggregate-add-records-both-2 : tie.Need-slice-aggregate-add-records-both-2
-slice-aggregate-add-records-both-2 c = sym (length-take-le _ _ (search needs))
+slice-aggregate-add-records-both-2 c = sym (length-take-le _ _ (room-on _ _ _ (c .before .before .before .before .before .before .before .before .before .before .before .before .before .before .before .before .before .before .before .before .before .before .before .pre .5) (c .before .before .before .before .before .before .before .before .before .before .before .before .gates-by-columns2 .kept .1 .1 .1 .1 .0)))
 
 slice-aggregate-add-records-both-3 : tie.Need-slice-aggregate-add-records-both-3
-slice-aggregate-add-records-both-3 c = search needs
+slice-aggregate-add-records-both-3 c = c .before .before .before .before .before .before .before .before .before .sequence-room .ensures
 
 slice-aggregate-add-records-both-4 : tie.Need-slice-aggregate-add-records-both-4
-slice-aggregate-add-records-both-4 c = search needs
+slice-aggregate-add-records-both-4 c = c .before .before .before .before .before .before .before .before .before .counts-room .ensures
 
 slice-aggregate-add-records-both-5 : tie.Need-slice-aggregate-add-records-both-5
-slice-aggregate-add-records-both-5 c = search needs
+slice-aggregate-add-records-both-5 c = c .before .before .before .before .before .before .before .before .before .probabilities-room .ensures
 
 slice-aggregate-add-records-both-6 : tie.Need-slice-aggregate-add-records-both-6
-slice-aggregate-add-records-both-6 c = search needs
+slice-aggregate-add-records-both-6 c = c .before .before .before .before .before .before .before .before .before .probabilities-room2 .ensures
 
 add-records-both-requires : tie.Need-add-records-both-requires
-add-records-both-requires c κs = (c .before .before .before .before .before .before .before .before .before .before .before .before .before .before .before .before .before .before .before .before .before .before .before .before .before .before .before .pre .0, c .before .before .before .before .before .before .before .before .before .before .before .before .before .before .before .before .before .before .before .before .before .before .before .before .before .before .before .pre .1, (c .before .before .before .before .before .before .before .before .before .before .before .before .before .before .before .before .before .before .before .before .before .before .before .before .before .before .before .pre .2, columns-lent _ _ _ _ _ _ (c .before .before .before .before .before .before .before .before .before .before .before .before .before .before .before .before .before .before .before .before .gates-by-columns .ensures)), (c .before .before .before .before .before .before .before .before .before .before .before .before .before .before .before .before .before .before .before .before .before .before .before .before .before .before .before .pre .3, columns-lent _ _ _ _ _ _ (c .before .before .before .before .before .before .before .before .before .before .before .before .before .before .before .before .gates-by-columns2 .ensures)), search needs, search needs, search needs, search needs)
+add-records-both-requires c κs = (c .before .before .before .before .before .before .before .before .before .before .before .before .before .before .before .before .before .before .before .before .before .before .before .before .before .before .before .pre .0, c .before .before .before .before .before .before .before .before .before .before .before .before .before .before .before .before .before .before .before .before .before .before .before .before .before .before .before .pre .1, (c .before .before .before .before .before .before .before .before .before .before .before .before .before .before .before .before .before .before .before .before .before .before .before .before .before .before .before .pre .2, columns-lent _ _ _ _ _ _ (c .before .before .before .before .before .before .before .before .before .before .before .before .before .before .before .before .before .before .before .before .gates-by-columns .ensures)), (c .before .before .before .before .before .before .before .before .before .before .before .before .before .before .before .before .before .before .before .before .before .before .before .before .before .before .before .pre .3, columns-lent _ _ _ _ _ _ (c .before .before .before .before .before .before .before .before .before .before .before .before .before .before .before .before .gates-by-columns2 .ensures)), room-new _ _ (c .before .before .before .before .before .before .before .before .before .before .before .before .sequence-room .ensures), room-new _ _ (c .before .before .before .before .before .before .before .before .before .before .before .counts-room .ensures), room-new _ _ (c .before .before .before .before .before .before .before .before .before .before .probabilities-room .ensures), room-new _ _ (c .before .before .before .before .before .before .before .before .before .probabilities-room2 .ensures))
 
 same-length : tie.Need-same-length
 same-length c = c .before .before .before .before .before .before .before .before .before .before .before .before .before .before .before .before .before .before .before .before .before .before .before .before .before .gates-by-columns .kept .1 .1 .1 .1 .0

@@ -6,13 +6,13 @@ use Rattle.diagnostics.proofs.refuse_onward.Statement.{statement}
 use Rattle.diagnostics.proofs.refuse_onward.Tie as tie
 
 enum-told : tie.Need-enum-told
-enum-told c = search needs
+enum-told c = c .match .keys1
 
 enum-told-2 : tie.Need-enum-told-2
-enum-told-2 c = search needs
+enum-told-2 c = c .match .keys2
 
 enum-known-l : tie.Need-enum-known-l
-enum-known-l c = search needs
+enum-known-l c = c .match .keys3
 
 returns : tie.Need-returns
 returns c = ap (onward _) (sym (c .enum-told .given .1))

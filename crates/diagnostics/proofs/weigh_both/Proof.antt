@@ -2,48 +2,49 @@
 use mathlib.Core.Bool.{false}
 use denote.Ref.{now}
 use Rattle.logarithm.specs.Steps.{lnBy, entriesOf}
-use mathlib.Core.Path.{sym}
+use mathlib.Core.Path.{refl, sym}
+use native.Mathlib.Nat.{le-trans}
 use lib.Seq.{length-take-le}
 use Rattle.diagnostics.proofs.Records.{gates-lie, one-for-each, weighed}
-use borrow.Author.Needs.{needs}
+use Rattle.diagnostics.proofs.Rooms.{room-part, vectors-in}
 use Rattle.diagnostics.proofs.weigh_both.Statement.{statement}
 use Rattle.diagnostics.proofs.weigh_both.Tie as tie
 
 load-counts-requires : tie.Need-load-counts-requires
-load-counts-requires c κs = search needs
+load-counts-requires c κs = (c .before .before .before .before .before .before .before .before .before .before .pre .0, c .before .before .before .before .before .before .before .before .before .before .pre .1, le-trans (c .before .before .before .before .before .before .before .before .before .before .pre .0 .limits .effects) (c .before .before .before .before .before .before .before .before .before .before .pre .5))
 
 probabilities-both-requires : tie.Need-probabilities-both-requires
-probabilities-both-requires c κs = (search needs, search needs, search needs, search needs, search needs, search needs, gates-lie _ _ _ _ _ _ (c .before .before .before .before .before .before .before .before .before .before .before .before .before .before .before .pre .2 .1) (c .before .before .before .before .before .before .before .before .before .before .before .before .before .before .before .pre .4), gates-lie _ _ _ _ _ _ (c .before .before .before .before .before .before .before .before .before .before .before .before .before .before .before .pre .3 .1) (c .before .before .before .before .before .before .before .before .before .before .before .before .before .before .before .pre .4))
+probabilities-both-requires c κs = let s = c .before .before .before .before .before .before .before .before .before .before .before .before .before .before .before .pre in (s .0 .limits .dimension, s .0 .limits .effects, vectors-in (c .before .before .before .before .before .before .before .before .before .before .before .before .before .before .before .args .h) _ (s .2 .0), vectors-in (c .before .before .before .before .before .before .before .before .before .before .before .before .before .before .before .args .h) _ (s .3 .0), le-trans (s .0 .limits .effects) (s .6), le-trans (s .0 .limits .effects) (s .7), gates-lie _ _ _ _ _ _ (s .2 .1) (s .4), gates-lie _ _ _ _ _ _ (s .3 .1) (s .4))
 
 slice-reshare-prefix-weigh-each : tie.Need-slice-reshare-prefix-weigh-each
-slice-reshare-prefix-weigh-each c = search needs
+slice-reshare-prefix-weigh-each c = room-part _ _ _ _ _ refl (c .before .before .before .before .before .before .before .before .before .before .before .before .before .before .before .before .before .before .before .before .pre .0 .limits .effects) (c .before .before .before .before .before .before .before .before .before .before .before .before .before .before .before .before .before .before .before .before .pre .5) (c .before .before .before .before .before .before .before .before .before .load-counts .kept .1 .1 .1 .0)
 
 slice-aggregate-weigh-each : tie.Need-slice-aggregate-weigh-each
-slice-aggregate-weigh-each c = sym (length-take-le _ _ (search needs))
+slice-aggregate-weigh-each c = sym (length-take-le _ _ (room-part _ _ _ _ _ refl (c .before .before .before .before .before .before .before .before .before .before .before .before .before .before .before .before .before .before .before .before .before .pre .0 .limits .effects) (c .before .before .before .before .before .before .before .before .before .before .before .before .before .before .before .before .before .before .before .before .before .pre .5) (c .before .before .before .before .before .before .before .before .before .before .load-counts .kept .1 .1 .1 .0)))
 
 slice-reshare-prefix-weigh-each-2 : tie.Need-slice-reshare-prefix-weigh-each-2
-slice-reshare-prefix-weigh-each-2 c = search needs
+slice-reshare-prefix-weigh-each-2 c = room-part _ _ _ _ _ refl (c .before .before .before .before .before .before .before .before .before .before .before .before .before .before .before .before .before .before .before .before .before .pre .0 .limits .effects) (c .before .before .before .before .before .before .before .before .before .before .before .before .before .before .before .before .before .before .before .before .before .pre .6) (c .before .before .before .before .before .probabilities-both .kept .1 .1 .1 .1 .1 .1 .1 .0)
 
 slice-aggregate-weigh-each-2 : tie.Need-slice-aggregate-weigh-each-2
-slice-aggregate-weigh-each-2 c = sym (length-take-le _ _ (search needs))
+slice-aggregate-weigh-each-2 c = sym (length-take-le _ _ (room-part _ _ _ _ _ refl (c .before .before .before .before .before .before .before .before .before .before .before .before .before .before .before .before .before .before .before .before .before .before .pre .0 .limits .effects) (c .before .before .before .before .before .before .before .before .before .before .before .before .before .before .before .before .before .before .before .before .before .before .pre .6) (c .before .before .before .before .before .before .probabilities-both .kept .1 .1 .1 .1 .1 .1 .1 .0)))
 
 slice-reshare-prefix-weigh-each-3 : tie.Need-slice-reshare-prefix-weigh-each-3
-slice-reshare-prefix-weigh-each-3 c = search needs
+slice-reshare-prefix-weigh-each-3 c = room-part _ _ _ _ _ refl (c .before .before .before .before .before .before .before .before .before .before .before .before .before .before .before .before .before .before .before .before .before .before .pre .0 .limits .effects) (c .before .before .before .before .before .before .before .before .before .before .before .before .before .before .before .before .before .before .before .before .before .before .pre .7) (c .before .before .before .before .before .before .probabilities-both .kept .1 .1 .1 .1 .1 .1 .1 .1 .0)
 
 slice-aggregate-weigh-each-3 : tie.Need-slice-aggregate-weigh-each-3
-slice-aggregate-weigh-each-3 c = sym (length-take-le _ _ (search needs))
+slice-aggregate-weigh-each-3 c = sym (length-take-le _ _ (room-part _ _ _ _ _ refl (c .before .before .before .before .before .before .before .before .before .before .before .before .before .before .before .before .before .before .before .before .before .before .before .pre .0 .limits .effects) (c .before .before .before .before .before .before .before .before .before .before .before .before .before .before .before .before .before .before .before .before .before .before .before .pre .7) (c .before .before .before .before .before .before .before .probabilities-both .kept .1 .1 .1 .1 .1 .1 .1 .1 .0)))
 
 weigh-each-requires : tie.Need-weigh-each-requires
 weigh-each-requires c κs = (one-for-each _ _ _ _ _ _ (c .before .before .before .before .before .before .before .before .before .before .before .before .before .before .before .before .before .before .before .before .before .before .before .pre .2 .1) (c .before .before .before .before .before .before .before .before .before .before .before .before .before .before .before .before .before .before .before .before .before .before .before .pre .4) _ _ _ _ (c .before .before .before .before .before .before .before .before .before .before .before .before .load-counts .ensures) (c .before .before .before .before .before .before .before .probabilities-both .ensures .0), one-for-each _ _ _ _ _ _ (c .before .before .before .before .before .before .before .before .before .before .before .before .before .before .before .before .before .before .before .before .before .before .before .pre .3 .1) (c .before .before .before .before .before .before .before .before .before .before .before .before .before .before .before .before .before .before .before .before .before .before .before .pre .4) _ _ _ _ (c .before .before .before .before .before .before .before .before .before .before .before .before .load-counts .ensures) (c .before .before .before .before .before .before .before .probabilities-both .ensures .1))
 
 same-length : tie.Need-same-length
-same-length c = search needs
+same-length c = c .before .before .before .before .before .before .before .before .before .before .before .before .before .load-counts .kept .1 .1 .1 .0
 
 same-length-2 : tie.Need-same-length-2
-same-length-2 c = search needs
+same-length-2 c = c .before .before .before .before .before .before .before .before .probabilities-both .kept .1 .1 .1 .1 .1 .1 .1 .0
 
 same-length-3 : tie.Need-same-length-3
-same-length-3 c = search needs
+same-length-3 c = c .before .before .before .before .before .before .before .before .probabilities-both .kept .1 .1 .1 .1 .1 .1 .1 .1 .0
 
 returns : tie.Need-returns
 returns c = let log = lnBy (entriesOf (now (c .before .before .before .before .before .before .before .before .before .before .before .before .before .before .before .before .before .before .before .before .before .before .before .before .args .quotients))) (entriesOf (now (c .before .before .before .before .before .before .before .before .before .before .before .before .before .before .before .before .before .before .before .before .before .before .before .before .args .remainders))) in (weighed _ _ _ _ _ _ (c .before .before .before .before .before .before .before .before .before .before .before .before .before .before .before .before .before .before .before .before .before .before .before .before .pre .2 .1) (c .before .before .before .before .before .before .before .before .before .before .before .before .before .before .before .before .before .before .before .before .before .before .before .before .pre .4) _ _ _ _ (c .before .before .before .before .before .before .before .before .before .before .before .before .before .load-counts .ensures) (c .before .before .before .before .before .before .before .before .probabilities-both .ensures .0) log false (c .before .before .before .before .before .before .before .before .before .before .before .before .before .before .before .before .before .before .before .before .before .before .before .before .args .tolerance) (c .before .before .before .before .before .before .before .before .before .before .before .before .before .before .before .before .before .before .before .before .before .before .before .before .args .b .first) _ (c .weigh-each .ensures .0), weighed _ _ _ _ _ _ (c .before .before .before .before .before .before .before .before .before .before .before .before .before .before .before .before .before .before .before .before .before .before .before .before .pre .3 .1) (c .before .before .before .before .before .before .before .before .before .before .before .before .before .before .before .before .before .before .before .before .before .before .before .before .pre .4) _ _ _ _ (c .before .before .before .before .before .before .before .before .before .before .before .before .before .load-counts .ensures) (c .before .before .before .before .before .before .before .before .probabilities-both .ensures .1) log false (c .before .before .before .before .before .before .before .before .before .before .before .before .before .before .before .before .before .before .before .before .before .before .before .before .args .tolerance) (c .before .before .before .before .before .before .before .before .before .before .before .before .before .before .before .before .before .before .before .before .before .before .before .before .args .b .second) _ (c .weigh-each .ensures .1))

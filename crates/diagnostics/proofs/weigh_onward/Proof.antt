@@ -6,16 +6,16 @@ use Rattle.diagnostics.proofs.weigh_onward.Statement.{statement}
 use Rattle.diagnostics.proofs.weigh_onward.Tie as tie
 
 enum-known-l : tie.Need-enum-known-l
-enum-known-l c = search needs
+enum-known-l c = c .match .keys1
 
 with-record-requires : tie.Need-with-record-requires
 with-record-requires c κs = search needs
 
 enum-told : tie.Need-enum-told
-enum-told c = search needs
+enum-told c = c .match .keys2
 
 enum-known-l-2 : tie.Need-enum-known-l-2
-enum-known-l-2 c = search needs
+enum-known-l-2 c = c .match .keys3
 
 returns : tie.Need-returns
 returns c = c .with-record .ensures ∙ ap (onward _) (sym (c .before .before .l .given .1))

@@ -1,31 +1,30 @@
 -- `diagnostics::weigh_record` meets its contract. Assumes nothing.
 use Rattle.likelihood.specs.declared.Likelihood.the-variants.{Fit}
 use Rattle.diagnostics.proofs.Records.{gates-lie, one-for-each, weighed}
-use mathlib.Core.Path.{sym}
+use mathlib.Core.Path.{refl, sym}
+use native.Mathlib.Nat.{le-trans}
 use lib.Seq.{length-take-le}
-use borrow.Author.Needs.{needs}
+use Rattle.diagnostics.proofs.Rooms.{room-part, vectors-in}
 use Rattle.diagnostics.proofs.weigh_record.Statement.{statement}
 use Rattle.diagnostics.proofs.weigh_record.Tie as tie
 
 load-counts-requires : tie.Need-load-counts-requires
-load-counts-requires c κs = search needs
+load-counts-requires c κs = (c .before .before .before .before .before .before .before .pre .0, c .before .before .before .before .before .before .before .pre .1, le-trans (c .before .before .before .before .before .before .before .pre .0 .limits .effects) (c .before .before .before .before .before .before .before .pre .4))
 
 probabilities-requires : tie.Need-probabilities-requires
-probabilities-requires c κs =
-    let s = c .before .before .before .before .before .before .before .before .before .before .before in
-    (search needs, search needs, search needs, search needs, gates-lie _ _ _ _ _ _ (s .pre .2 .1) (s .pre .3))
+probabilities-requires c κs = let s = c .before .before .before .before .before .before .before .before .before .before .before .pre in (s .0 .limits .dimension, s .0 .limits .effects, vectors-in (c .before .before .before .before .before .before .before .before .before .before .before .args .h) _ (s .2 .0), le-trans (s .0 .limits .effects) (s .5), gates-lie _ _ _ _ _ _ (s .2 .1) (s .3))
 
 slice-reshare-prefix-with-record : tie.Need-slice-reshare-prefix-with-record
-slice-reshare-prefix-with-record c = search needs
+slice-reshare-prefix-with-record c = room-part _ _ _ _ _ refl (c .before .before .before .before .before .before .before .before .before .before .before .before .before .before .pre .0 .limits .effects) (c .before .before .before .before .before .before .before .before .before .before .before .before .before .before .pre .4) (c .before .before .before .before .before .before .load-counts .kept .1 .1 .1 .0)
 
 slice-aggregate-with-record : tie.Need-slice-aggregate-with-record
-slice-aggregate-with-record c = sym (length-take-le _ _ (search needs))
+slice-aggregate-with-record c = sym (length-take-le _ _ (room-part _ _ _ _ _ refl (c .before .before .before .before .before .before .before .before .before .before .before .before .before .before .before .pre .0 .limits .effects) (c .before .before .before .before .before .before .before .before .before .before .before .before .before .before .before .pre .4) (c .before .before .before .before .before .before .before .load-counts .kept .1 .1 .1 .0)))
 
 slice-reshare-prefix-with-record-2 : tie.Need-slice-reshare-prefix-with-record-2
-slice-reshare-prefix-with-record-2 c = search needs
+slice-reshare-prefix-with-record-2 c = room-part _ _ _ _ _ refl (c .before .before .before .before .before .before .before .before .before .before .before .before .before .before .before .pre .0 .limits .effects) (c .before .before .before .before .before .before .before .before .before .before .before .before .before .before .before .pre .5) (c .before .before .before .probabilities .kept .1 .1 .1 .1 .1 .0)
 
 slice-aggregate-with-record-2 : tie.Need-slice-aggregate-with-record-2
-slice-aggregate-with-record-2 c = sym (length-take-le _ _ (search needs))
+slice-aggregate-with-record-2 c = sym (length-take-le _ _ (room-part _ _ _ _ _ refl (c .before .before .before .before .before .before .before .before .before .before .before .before .before .before .before .before .pre .0 .limits .effects) (c .before .before .before .before .before .before .before .before .before .before .before .before .before .before .before .before .pre .5) (c .before .before .before .before .probabilities .kept .1 .1 .1 .1 .1 .0)))
 
 with-record-requires : tie.Need-with-record-requires
 with-record-requires c κs =
@@ -33,10 +32,10 @@ with-record-requires c κs =
     one-for-each _ _ _ _ _ _ (s .pre .2 .1) (s .pre .3) _ _ _ _ (c .before .before .before .before .before .before .before .before .load-counts .ensures) (c .before .before .before .before .probabilities .ensures)
 
 same-length : tie.Need-same-length
-same-length c = search needs
+same-length c = c .before .before .before .before .before .before .before .before .before .load-counts .kept .1 .1 .1 .0
 
 same-length-2 : tie.Need-same-length-2
-same-length-2 c = search needs
+same-length-2 c = c .before .before .before .before .before .probabilities .kept .1 .1 .1 .1 .1 .0
 
 returns : tie.Need-returns
 returns c =

@@ -1,7 +1,6 @@
 -- `eigen::eigen` meets its contract. Assumes nothing.
-use Rattle.sizes.proofs.Small.{square-most}
 use lib.Seq.{length-take-le}
-use native.Mathlib.Omega.{arith}
+use Rattle.eigen.proofs.Copies.{rows-fit, square-fits, parts-fit}
 use mathlib.Core.Path.{sym}
 use borrow.Author.Needs.{needs}
 use Rattle.eigen.proofs.eigen.Statement.{statement}
@@ -26,40 +25,40 @@ matrix-room-requires : tie.Need-matrix-room-requires
 matrix-room-requires c κs = search needs
 
 array-borrow-prefix-v : tie.Need-array-borrow-prefix-v
-array-borrow-prefix-v c = let s = c .before .before .before .before .before .before .before .before in omega (arith, square-most (s .args .n) (s .pre .3))
+array-borrow-prefix-v c = parts-fit (c .before .before .before .before .before .before .before .before .args .n) _ (c .before .before .before .before .before .before .before .before .pre .3) (c .before .before .matrix-room .ensures)
 
 slice-aggregate-eigen-in : tie.Need-slice-aggregate-eigen-in
-slice-aggregate-eigen-in c = let s = c .before .before .before .before .before .before .before .before .before in sym (length-take-le _ _ (omega (arith, square-most (s .args .n) (s .pre .3))))
+slice-aggregate-eigen-in c = sym (length-take-le _ _ (parts-fit (c .before .before .before .before .before .before .before .before .before .args .n) _ (c .before .before .before .before .before .before .before .before .before .pre .3) (c .before .before .before .matrix-room .ensures)))
 
 array-borrow-prefix-bounds : tie.Need-array-borrow-prefix-bounds
-array-borrow-prefix-bounds c = let s = c .before .before .before .before .before .before .before .before .before in omega (arith, square-most (s .args .n) (s .pre .3))
+array-borrow-prefix-bounds c = square-fits (c .before .before .before .before .before .before .before .before .before .args .n) _ (c .before .before .before .before .before .before .before .before .before .pre .3) (c .before .before .before .before .before .before .room .ensures)
 
 slice-aggregate-eigen-in-2 : tie.Need-slice-aggregate-eigen-in-2
-slice-aggregate-eigen-in-2 c = let s = c .before .before .before .before .before .before .before .before .before .before in sym (length-take-le _ _ (omega (arith, square-most (s .args .n) (s .pre .3))))
+slice-aggregate-eigen-in-2 c = sym (length-take-le _ _ (square-fits (c .before .before .before .before .before .before .before .before .before .before .args .n) _ (c .before .before .before .before .before .before .before .before .before .before .pre .3) (c .before .before .before .before .before .before .before .room .ensures)))
 
 array-borrow-prefix-sizes : tie.Need-array-borrow-prefix-sizes
-array-borrow-prefix-sizes c = let s = c .before .before .before .before .before .before .before .before .before .before in omega (arith, square-most (s .args .n) (s .pre .3))
+array-borrow-prefix-sizes c = square-fits (c .before .before .before .before .before .before .before .before .before .before .args .n) _ (c .before .before .before .before .before .before .before .before .before .before .pre .3) (c .before .before .before .before .before .before .room2 .ensures)
 
 slice-aggregate-eigen-in-3 : tie.Need-slice-aggregate-eigen-in-3
-slice-aggregate-eigen-in-3 c = let s = c .before .before .before .before .before .before .before .before .before .before .before in sym (length-take-le _ _ (omega (arith, square-most (s .args .n) (s .pre .3))))
+slice-aggregate-eigen-in-3 c = sym (length-take-le _ _ (square-fits (c .before .before .before .before .before .before .before .before .before .before .before .args .n) _ (c .before .before .before .before .before .before .before .before .before .before .before .pre .3) (c .before .before .before .before .before .before .before .room2 .ensures)))
 
 array-borrow-prefix-order : tie.Need-array-borrow-prefix-order
-array-borrow-prefix-order c = search needs
+array-borrow-prefix-order c = rows-fit (c .before .before .before .before .before .before .before .before .before .before .before .args .n) _ (c .before .before .before .before .before .before .before .before .before .before .before .pre .3) (c .before .before .before .before .before .before .places .ensures)
 
 slice-aggregate-eigen-in-4 : tie.Need-slice-aggregate-eigen-in-4
-slice-aggregate-eigen-in-4 c = sym (length-take-le _ _ (search needs))
+slice-aggregate-eigen-in-4 c = sym (length-take-le _ _ (rows-fit (c .before .before .before .before .before .before .before .before .before .before .before .before .args .n) _ (c .before .before .before .before .before .before .before .before .before .before .before .before .pre .3) (c .before .before .before .before .before .before .before .places .ensures)))
 
 eigen-in-requires : tie.Need-eigen-in-requires
-eigen-in-requires c κs = let s = c .before .before .before .before .before .before .before .before .before .before .before .before in let q = square-most (s .args .n) (s .pre .3) in (s .pre .0, s .pre .1, length-take-le _ _ (omega (arith, q)), s .pre .2, length-take-le _ _ (omega (arith, q)), length-take-le _ _ (omega (arith, q)), length-take-le _ _ (search needs))
+eigen-in-requires c κs = (c .before .before .before .before .before .before .before .before .before .before .before .before .pre .0, c .before .before .before .before .before .before .before .before .before .before .before .before .pre .1, length-take-le _ _ (parts-fit (c .before .before .before .before .before .before .before .before .before .before .before .before .args .n) _ (c .before .before .before .before .before .before .before .before .before .before .before .before .pre .3) (c .before .before .before .before .before .before .matrix-room .ensures)), c .before .before .before .before .before .before .before .before .before .before .before .before .pre .2, length-take-le _ _ (square-fits (c .before .before .before .before .before .before .before .before .before .before .before .before .args .n) _ (c .before .before .before .before .before .before .before .before .before .before .before .before .pre .3) (c .before .before .before .before .before .before .before .before .before .room .ensures)), length-take-le _ _ (square-fits (c .before .before .before .before .before .before .before .before .before .before .before .before .args .n) _ (c .before .before .before .before .before .before .before .before .before .before .before .before .pre .3) (c .before .before .before .before .before .before .before .before .room2 .ensures)), length-take-le _ _ (rows-fit (c .before .before .before .before .before .before .before .before .before .before .before .before .args .n) _ (c .before .before .before .before .before .before .before .before .before .before .before .before .pre .3) (c .before .before .before .before .before .before .before .places .ensures)))
 
 same-length : tie.Need-same-length
-same-length c = search needs
+same-length c = c .before .before .before .before .before .before .before .a .given
 
 same-length-2 : tie.Need-same-length-2
-same-length-2 c = search needs
+same-length-2 c = c .before .before .before .before .before .w .given
 
 returns : tie.Need-returns
-returns c = search needs
+returns c = c .before .before .before .before .before .before .before .before .eigen-in .ensures
 
 pub eigen-spec : {M : Type 1} → statement M
 eigen-spec =

@@ -4,7 +4,7 @@ use denote.Ref.{now}
 use Rattle.likelihood.specs.declared.Likelihood.{Likelihood}
 use Rattle.descent.specs.declared.Evaluated.the-variants.{Value}
 use Rattle.descent.specs.Fit.{scored}
-use Rattle.evaluation.specs.Job.{jobBy}
+use Rattle.objective.specs.Job.{jobBy}
 use borrow.Author.Needs.{needs}
 use Rattle.evaluation.proofs.score.Statement.{statement}
 use Rattle.evaluation.proofs.score.Tie as tie

@@ -21,7 +21,7 @@ logarithms-requires : tie.Need-logarithms-requires
 logarithms-requires c κs = search needs
 
 same-length : tie.Need-same-length
-same-length c = search needs
+same-length c = c .before .out .given
 
 returns : tie.Need-returns
 returns c =

@@ -5,7 +5,7 @@ use denote.Ref.{now}
 use Rattle.lists.specs.Build.{over}
 use Rattle.lists.proofs.Choices.{yes, no}
 use Rattle.card.specs.declared.Reading.{Reading}
-use Rattle.exports.specs.Exported.{readingCode, readingWords}
+use Rattle.answer_words.specs.Words.{readingCode, readingWords}
 use borrow.Author.Needs.{needs}
 use Rattle.exports.proofs.mintshuttle_read.Statement.{statement}
 use Rattle.exports.proofs.mintshuttle_read.Tie as tie
@@ -17,10 +17,10 @@ read-requires : tie.Need-read-requires
 read-requires c κs = search needs
 
 put-reading-requires : tie.Need-put-reading-requires
-put-reading-requires c κs = search needs
+put-reading-requires c κs = c .before .before .if1 .left
 
 same-length : tie.Need-same-length
-same-length c = search needs
+same-length c = c .before .answer .given
 
 returns-2 : tie.Need-returns-2
 returns-2 c =

@@ -3,7 +3,7 @@ use mathlib.Core.Path.{subst, _∙_}
 use native.Mathlib.Omega.{arith}
 use denote.Ref.{now}
 use lib.ListN.{length}
-use Rattle.evaluation.specs.Job.{jobBy}
+use Rattle.objective.specs.Job.{jobBy}
 use Rattle.steps.specs.Running.{pointOf, Sloped}
 use Rattle.fit.proofs.Closing.{closes, closes-refused}
 use borrow.Author.Needs.{needs}
@@ -11,7 +11,7 @@ use Rattle.fit.proofs.close.Statement.{statement}
 use Rattle.fit.proofs.close.Tie as tie
 
 room-requires : tie.Need-room-requires
-room-requires c κs = search needs
+room-requires c κs = tt
 
 slice-aggregate-slope-at : tie.Need-slice-aggregate-slope-at
 slice-aggregate-slope-at c = search needs
@@ -20,10 +20,10 @@ slope-at-requires : tie.Need-slope-at-requires
 slope-at-requires c κs = search needs
 
 enum-known-found : tie.Need-enum-known-found
-enum-known-found c = search needs
+enum-known-found c = c .match .keys1
 
 reason-requires : tie.Need-reason-requires
-reason-requires c κs = search needs
+reason-requires c κs = tt
 
 show-requires : tie.Need-show-requires
 show-requires c κs =
@@ -31,13 +31,13 @@ show-requires c κs =
     (s .pre .0 .placed, c .before .before .before .before .before .before .before .before .before .before .before .before .slope-at .kept .1 .1 .1 .1 .1 .1 .1 .0 ∙ s .pre .0 .model-room, omega (arith, c .before .before .before .before .before .before .before .before .before .before .before .before .slope-at .kept .1 .1 .1 .1 .1 .1 .1 .1 .0, s .pre .0 .columns-room), s .pre .1)
 
 enum-known-found-2 : tie.Need-enum-known-found-2
-enum-known-found-2 c = search needs
+enum-known-found-2 c = c .match .keys2
 
 same-length : tie.Need-same-length
-same-length c = search needs
+same-length c = c .before .before .before .before .show .kept .1 .1 .1 .1 .1 .1 .1 .1 .0 ∙ c .before .before .before .before .before .before .before .before .before .before .before .before .before .before .before .before .before .slope-at .kept .1 .1 .1 .1 .1 .1 .1 .0
 
 same-length-2 : tie.Need-same-length-2
-same-length-2 c = search needs
+same-length-2 c = c .before .before .before .before .show .kept .1 .1 .1 .1 .1 .1 .1 .1 .1 .0 ∙ c .before .before .before .before .before .before .before .before .before .before .before .before .before .before .before .before .before .slope-at .kept .1 .1 .1 .1 .1 .1 .1 .1 .0
 
 returns : tie.Need-returns
 returns c =
@@ -46,10 +46,10 @@ returns c =
     closes J (s .args .initial) (s .args .stop) (pointOf (length (now (s .args .places))) (s .args .r)) _ _ _ _ _ (subst (Sloped J _ _) (c .before .before .before .before .before .before .before .before .before .before .found .given .1) (c .before .before .before .before .before .before .before .before .before .before .before .before .before .before .before .before .before .slope-at .ensures .0)) (c .before .before .before .before .before .before .before .reason .ensures) (c .before .before .before .before .show .ensures .0) (c .before .before .before .before .show .ensures .1)
 
 same-length-3 : tie.Need-same-length-3
-same-length-3 c = search needs
+same-length-3 c = c .before .before .before .before .before .before .before .before .slope-at .kept .1 .1 .1 .1 .1 .1 .1 .0
 
 same-length-4 : tie.Need-same-length-4
-same-length-4 c = search needs
+same-length-4 c = c .before .before .before .before .before .before .before .before .slope-at .kept .1 .1 .1 .1 .1 .1 .1 .1 .0
 
 returns-2 : tie.Need-returns-2
 returns-2 c =

@@ -7,13 +7,13 @@ use Rattle.fit.proofs.diagnostics_in.Statement.{statement}
 use Rattle.fit.proofs.diagnostics_in.Tie as tie
 
 enum-known-l : tie.Need-enum-known-l
-enum-known-l c = search needs
+enum-known-l c = c .match .keys1
 
 enum-told : tie.Need-enum-told
-enum-told c = search needs
+enum-told c = c .match .keys2
 
 enum-told-2 : tie.Need-enum-told-2
-enum-told-2 c = search needs
+enum-told-2 c = c .match .keys3
 
 returns : tie.Need-returns
 returns c = search needs

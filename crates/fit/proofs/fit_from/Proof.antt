@@ -5,14 +5,14 @@ use denote.Ref.{now}
 use lib.ListN.{length}
 use lib.Seq.{length-take-le}
 use Rattle.model_words.proofs.Sizes.{length-model}
-use Rattle.evaluation.specs.Job.{jobBy}
+use Rattle.objective.specs.Job.{jobBy}
 use Rattle.fit.proofs.Whole.{read-front, read-fits, read-room, begins, fit-ends}
 use borrow.Author.Needs.{needs}
 use Rattle.fit.proofs.fit_from.Statement.{statement}
 use Rattle.fit.proofs.fit_from.Tie as tie
 
 room-requires : tie.Need-room-requires
-room-requires c κs = search needs
+room-requires c κs = tt
 
 array-borrow-prefix-x : tie.Need-array-borrow-prefix-x
 array-borrow-prefix-x c = search needs
@@ -95,10 +95,10 @@ finish-requires c κs =
     (record { placed = s .pre .0; anchored = read-front J (now (s .args .model)) (c .before .before .before .before .before .before .before .before .before .before .before .before .before .before .before .read .last .1 .1 .0) (c .before .before .before .before .before .before .before .before .before .before .before .before .before .before .before .before .before .before .room .result) (c .before .before .before .before .before .before .before .before .before .before .before .before .before .before .before .read .ensures) (s .pre .1); model-room = k .0 ∙ ap length (s .pre .1) ∙ length-model _ _; columns-room = omega (arith, k .1 .0, s .pre .2) }, c .before .before .before .before .before .before .before .run .ensures .0 .underway, c .before .before .before .before .before .before .before .run .ensures .0 .normed)
 
 same-length : tie.Need-same-length
-same-length c = search needs
+same-length c = c .before .before .before .before .finish .kept .1 .1 .1 .1 .1 .1 .1 .0 ∙ c .before .before .before .before .before .before .before .before .before .before .before .before .run .kept .1 .1 .1 .1 .1 .1 .0
 
 same-length-2 : tie.Need-same-length-2
-same-length-2 c = search needs
+same-length-2 c = c .before .before .before .before .finish .kept .1 .1 .1 .1 .1 .1 .1 .1 .0 ∙ c .before .before .before .before .before .before .before .before .before .before .before .before .run .kept .1 .1 .1 .1 .1 .1 .1 .0
 
 returns : tie.Need-returns
 returns c =

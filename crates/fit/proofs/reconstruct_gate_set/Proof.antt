@@ -18,7 +18,7 @@ config-of-requires c κs =
     controls-in (now (s .args .card)) (s .args .h) (s .pre .0) (s .pre .1)
 
 places-room-requires : tie.Need-places-room-requires
-places-room-requires c κs = search needs
+places-room-requires c κs = tt
 
 slice-aggregate-load-places : tie.Need-slice-aggregate-load-places
 slice-aggregate-load-places c = search needs
@@ -46,10 +46,10 @@ fit-at-requires c κs =
     )
 
 same-length : tie.Need-same-length
-same-length c = search needs
+same-length c = c .before .before .before .before .fit-at .kept .1 .1 .1 .1 .0
 
 same-length-2 : tie.Need-same-length-2
-same-length-2 c = search needs
+same-length-2 c = c .before .before .before .before .fit-at .kept .1 .1 .1 .1 .1 .0
 
 returns : tie.Need-returns
 returns c =

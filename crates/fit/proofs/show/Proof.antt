@@ -4,7 +4,7 @@ use native.Mathlib.Omega.{arith}
 use denote.Ref.{now}
 use lib.ListN.{length}
 use lib.Seq.{length-take-le}
-use Rattle.evaluation.specs.Job.{jobBy}
+use Rattle.objective.specs.Job.{jobBy}
 use Rattle.steps.specs.Running.{pointOf}
 use Rattle.fit.proofs.Closing.{shown}
 use borrow.Author.Needs.{needs}
@@ -28,7 +28,7 @@ fit-diagnostics-requires : tie.Need-fit-diagnostics-requires
 fit-diagnostics-requires c κs = search needs
 
 diagnostics-in-requires : tie.Need-diagnostics-in-requires
-diagnostics-in-requires c κs = search needs
+diagnostics-in-requires c κs = tt
 
 mul-evaluations : tie.Need-mul-evaluations
 mul-evaluations c = search needs
@@ -37,10 +37,10 @@ add-evaluations : tie.Need-add-evaluations
 add-evaluations c = search needs
 
 same-length : tie.Need-same-length
-same-length c = search needs
+same-length c = c .before .before .before .before .before .before .before .before .before .fill .kept .1 .1 .1 .1 .0
 
 same-length-2 : tie.Need-same-length-2
-same-length-2 c = search needs
+same-length-2 c = c .before .before .before .before .fit-diagnostics .kept .1 .1 .1 .1 .1 .0
 
 returns : tie.Need-returns
 returns c =

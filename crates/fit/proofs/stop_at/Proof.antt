@@ -2,7 +2,7 @@
 use mathlib.Core.Path.{sym, _∙_}
 use denote.Ref.{now}
 use lib.ListN.{length}
-use Rattle.evaluation.specs.Job.{jobBy}
+use Rattle.objective.specs.Job.{jobBy}
 use Rattle.steps.specs.Running.{pointOf}
 use Rattle.fit.proofs.Closing.{known}
 use borrow.Author.Needs.{needs}
@@ -10,16 +10,16 @@ use Rattle.fit.proofs.stop_at.Statement.{statement}
 use Rattle.fit.proofs.stop_at.Tie as tie
 
 keeps-norm-requires : tie.Need-keeps-norm-requires
-keeps-norm-requires c κs = search needs
+keeps-norm-requires c κs = tt
 
 show-requires : tie.Need-show-requires
 show-requires c κs = search needs
 
 same-length : tie.Need-same-length
-same-length c = search needs
+same-length c = c .before .before .before .before .show .kept .1 .1 .1 .1 .1 .1 .1 .1 .0
 
 same-length-2 : tie.Need-same-length-2
-same-length-2 c = search needs
+same-length-2 c = c .before .before .before .before .show .kept .1 .1 .1 .1 .1 .1 .1 .1 .1 .0
 
 returns : tie.Need-returns
 returns c =
@@ -31,10 +31,10 @@ close-requires : tie.Need-close-requires
 close-requires c κs = search needs
 
 same-length-3 : tie.Need-same-length-3
-same-length-3 c = search needs
+same-length-3 c = c .before .before .before .before .close .kept .1 .1 .1 .1 .1 .1 .1 .1 .0
 
 same-length-4 : tie.Need-same-length-4
-same-length-4 c = search needs
+same-length-4 c = c .before .before .before .before .close .kept .1 .1 .1 .1 .1 .1 .1 .1 .1 .0
 
 returns-2 : tie.Need-returns-2
 returns-2 c = c .before .before .before .before .close .ensures

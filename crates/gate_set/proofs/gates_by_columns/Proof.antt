@@ -1,17 +1,17 @@
 -- `gate_set::gates_by_columns` meets its contract. Assumes nothing.
 use Prim.Native.Nat.{ℕ, _≤_, _-_, _+_, _*_}
 use mathlib.Core.List.{_++_}
-use mathlib.Core.Path.{_≡_, refl, sym, ap, _∙_}
-use native.Mathlib.Nat.{le-of-eq, mul-le-mul}
+use mathlib.Core.Path.{_≡_, ap, _∙_}
+use native.Mathlib.Nat.{mul-le-mul}
+use native.Mathlib.Numerals.{add-one-le, add-one-dec}
 use native.Mathlib.Omega.{arith}
 use denote.Ref.{now}
 use lib.ListN.{length, drop}
-use Rattle.lists.proofs.Joined.{Written, written-none, written-part, written-end}
-use Rattle.lists.proofs.Parts.{row-in, row-fits, part-lent, lent-long}
+use Rattle.lists.proofs.Joined.{Written, written-none, written-end}
+use Rattle.lists.proofs.Parts.{row-in, row-fits}
 use Rattle.matrix.specs.Product.{transposedOf}
-use Rattle.matrix.proofs.Transposes.{length-transposed, transposed-whole}
 use Rattle.gate_set.specs.GateSet.{gateIn, columnsIn}
-use Rattle.gate_set.proofs.Columns.{length-columns-in}
+use Rattle.gate_set.proofs.Columns.{length-columns-in, gate-taken, gate-room, gate-written}
 use borrow.Author.Needs.{needs}
 use Rattle.gate_set.proofs.gates_by_columns.Statement.{statement}
 use Rattle.gate_set.proofs.gates_by_columns.Tie as tie
@@ -71,23 +71,19 @@ part-transpose-end-2 : tie.Need-part-transpose-end-2 Inv-loop μ-loop
 part-transpose-end-2 c = let s = c .before .before .before .before .before in omega (arith, row-fits (c .before .before .loop .g) (s .args .gates) (s .args .d * s .args .d) _ (c .before .loop-test .taken) (s .pre .4))
 
 transpose-requires : tie.Need-transpose-requires Inv-loop μ-loop
-transpose-requires c κs =
-    let s = c .before .before .before .before .before .before in
-    let f = row-in (c .before .before .before .loop .g) (s .args .gates) (s .args .d * s .args .d) (c .before .before .loop-test .taken) in
-    (search needs, le-of-eq (sym (lent-long (s .args .d + s .args .e * s .args .d + c .before .before .before .loop .g * (s .args .d * s .args .d)) _ (s .args .d * s .args .d) (now (s .args .model)) refl (omega arith))), le-of-eq (sym (lent-long (c .before .before .before .loop .g * (s .args .d * s .args .d)) _ (s .args .d * s .args .d) (c .before .before .before .loop .out) refl (omega arith))))
+transpose-requires c κs = (c .before .before .before .before .before .before .pre .0, gate-taken (c .before .before .before .before .before .before .args .d) (c .before .before .before .before .before .before .args .e) (c .before .before .before .before .before .before .args .gates) (c .before .before .before .loop .g) (now (c .before .before .before .before .before .before .args .model)) (c .before .before .loop-test .taken) (c .before .before .before .before .before .before .pre .3), gate-room (c .before .before .before .before .before .before .args .d) (c .before .before .before .before .before .before .args .gates) (c .before .before .before .loop .g) (now (c .before .before .before .before .before .before .args .out)) (c .before .before .before .loop .out) (c .before .before .loop-test .taken) (c .before .before .before .before .before .before .pre .4) (c .before .before .before .loop .inv .1))
 
 add-g : tie.Need-add-g Inv-loop μ-loop
 add-g c = search needs
 
 loop-less : tie.Need-loop-less Inv-loop μ-loop
-loop-less c = search needs
+loop-less c = add-one-dec _ _ (c .before .before .before .before .before .loop-test .taken)
 
 loop-again : tie.Need-loop-again Inv-loop μ-loop
-unfolding columnsIn
-loop-again c = let s = c .before .before .before .before .before .before .before .before .before in (search needs, search needs, written-part _ _ (c .before .before .before .before .before .before .loop .g) (s .args .d * s .args .d) _ _ (c .before .before .before .before .before .before .loop .out) _ (length-columns-in (s .args .d) (s .args .e) (c .before .before .before .before .before .before .loop .g) (now (s .args .model))) refl (length-transposed (s .args .d) _) (c .before .before .before .before .before .before .loop .inv .2) (c .before .before .transpose .ensures ∙ transposed-whole (s .args .d) _ _ (lent-long (c .before .before .before .before .before .before .loop .g * (s .args .d * s .args .d)) _ (s .args .d * s .args .d) (c .before .before .before .before .before .before .loop .out) refl (omega (arith, row-fits (c .before .before .before .before .before .before .loop .g) (s .args .gates) (s .args .d * s .args .d) _ (c .before .before .before .before .before .loop-test .taken) (s .pre .4), c .before .before .before .before .before .before .loop .inv .1))) ∙ ap (transposedOf (s .args .d)) (part-lent (s .args .d + s .args .e * s .args .d + c .before .before .before .before .before .before .loop .g * (s .args .d * s .args .d)) _ (s .args .d * s .args .d) (now (s .args .model)) refl)))
+loop-again c = (add-one-le (c .before .before .before .before .before .loop-test .taken), search needs, gate-written (c .before .before .before .before .before .before .before .before .before .args .d) (c .before .before .before .before .before .before .before .before .before .args .e) (c .before .before .before .before .before .before .before .before .before .args .gates) (c .before .before .before .before .before .before .loop .g) (now (c .before .before .before .before .before .before .before .before .before .args .model)) (now (c .before .before .before .before .before .before .before .before .before .args .out)) (c .before .before .before .before .before .before .loop .out) _ (c .before .before .before .before .before .loop-test .taken) (c .before .before .before .before .before .before .before .before .before .pre .4) (c .before .before .before .before .before .before .loop .inv .1) (c .before .before .before .before .before .before .loop .inv .2) (c .before .before .transpose .ensures))
 
 same-length : tie.Need-same-length Inv-loop μ-loop
-same-length c = search needs
+same-length c = c .before .loop .inv .1
 
 returns : tie.Need-returns Inv-loop μ-loop
 unfolding columnsIn

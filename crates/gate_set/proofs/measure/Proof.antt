@@ -1,15 +1,17 @@
 -- `gate_set::measure` meets its contract. Assumes nothing.
 use Prim.Native.Nat.{_≤_, _-_, _+_, _*_}
 use mathlib.Core.Path.{_≡_, refl, _∙_}
-use native.Mathlib.Nat.{le-of-eq}
+use native.Mathlib.Nat.{le-of-eq, lt-of-lt-of-le}
+use native.Mathlib.Numerals.{add-one-le, add-one-dec}
 use native.Mathlib.Omega.{arith}
 use denote.Ref.{now}
-use lib.ListN.{length}
+use lib.ListN.{length, length-set}
 use Rattle.lists.proofs.Filling.{Filled, fill-none, fill-more, fill-end}
 use Rattle.lists.proofs.Parts.{row-in, lent-long}
 use Rattle.matrix.proofs.Sums.{dot-lent}
 use Rattle.matrix.specs.Product.{dotOf}
 use Rattle.gate_set.specs.GateSet.{effectIn, measured}
+use Rattle.gate_set.proofs.Columns.{effect-within}
 use borrow.Author.Needs.{needs}
 use Rattle.gate_set.proofs.measure.Statement.{statement}
 use Rattle.gate_set.proofs.measure.Tie as tie
@@ -21,7 +23,7 @@ abbrev μ-loop : tie.MeasureT-loop
 μ-loop model x e out₀ d k₀ out k = e - k
 
 loop-holds : tie.Need-loop-holds Inv-loop μ-loop
-loop-holds c = (search needs, search needs, fill-none _ _)
+loop-holds c = (search needs, refl, fill-none _ _)
 
 mul-start : tie.Need-mul-start Inv-loop μ-loop
 mul-start c = omega (arith, row-in (c .before .loop .k) (c .before .before .before .before .before .args .e) (length (now (c .before .before .before .before .before .args .x))) (c .loop-test .taken))
@@ -42,10 +44,10 @@ part-dot-start : tie.Need-part-dot-start Inv-loop μ-loop
 part-dot-start c = search needs
 
 part-dot-end : tie.Need-part-dot-end Inv-loop μ-loop
-part-dot-end c = omega (arith, row-in (c .before .loop .k) (c .before .before .before .before .before .args .e) (length (now (c .before .before .before .before .before .args .x))) (c .loop-test .taken))
+part-dot-end c = effect-within (length (now (c .before .before .before .before .before .args .x))) (c .before .before .before .before .before .args .e) (c .before .loop .k) (now (c .before .before .before .before .before .args .model)) (c .loop-test .taken) (c .before .before .before .before .before .pre .2)
 
 dot-requires : tie.Need-dot-requires Inv-loop μ-loop
-dot-requires c κs = let s = c .before .before .before .before .before .before in le-of-eq (lent-long (length (now (s .args .x)) + c .before .before .loop .k * length (now (s .args .x))) _ (length (now (s .args .x))) (now (s .args .model)) refl (omega (arith, row-in (c .before .before .loop .k) (s .args .e) (length (now (s .args .x))) (c .before .loop-test .taken))))
+dot-requires c κs = let s = c .before .before .before .before .before .before in le-of-eq (lent-long (length (now (s .args .x)) + c .before .before .loop .k * length (now (s .args .x))) _ (length (now (s .args .x))) (now (s .args .model)) refl (effect-within (length (now (s .args .x))) (s .args .e) (c .before .before .loop .k) (now (s .args .model)) (c .before .loop-test .taken) (s .pre .2)))
 
 mul-out : tie.Need-mul-out Inv-loop μ-loop
 mul-out c = search needs
@@ -57,13 +59,13 @@ add-k : tie.Need-add-k Inv-loop μ-loop
 add-k c = search needs
 
 loop-less : tie.Need-loop-less Inv-loop μ-loop
-loop-less c = search needs
+loop-less c = add-one-dec _ _ (c .before .before .loop-test .taken)
 
 loop-again : tie.Need-loop-again Inv-loop μ-loop
-loop-again c = let s = c .before .before .before .before .before .before .before in (search needs, search needs, fill-more _ _ _ _ _ (search needs) (c .before .before .before .loop .inv .2) (c .dot .ensures ∙ dot-lent (now (s .args .model)) (now (s .args .x)) _ _ (length (now (s .args .x))) refl (omega (arith, row-in (c .before .before .before .loop .k) (s .args .e) (length (now (s .args .x))) (c .before .before .loop-test .taken)))))
+loop-again c = let s = c .before .before .before .before .before .before .before in (add-one-le (c .before .before .loop-test .taken), length-set (c .before .before .before .loop .out) (c .before .before .before .loop .k) (c .dot .result) ∙ c .before .before .before .loop .inv .1, fill-more _ _ _ _ _ (lt-of-lt-of-le (c .before .before .loop-test .taken) (s .pre .3)) (c .before .before .before .loop .inv .2) (c .dot .ensures ∙ dot-lent (now (s .args .model)) (now (s .args .x)) _ _ (length (now (s .args .x))) refl (effect-within (length (now (s .args .x))) (s .args .e) (c .before .before .before .loop .k) (now (s .args .model)) (c .before .before .loop-test .taken) (s .pre .2))))
 
 same-length : tie.Need-same-length Inv-loop μ-loop
-same-length c = search needs
+same-length c = c .before .loop .inv .1
 
 returns : tie.Need-returns Inv-loop μ-loop
 unfolding measured

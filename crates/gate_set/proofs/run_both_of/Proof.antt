@@ -1,22 +1,21 @@
 -- `gate_set::run_both_of` meets its contract. Assumes nothing.
-use Prim.Native.Nat.{_≤_, _-_, _*_}
-use mathlib.Core.Path.{_≡_, refl, sym, ap, _∙_}
-use native.Mathlib.Nat.{le-of-eq, mul-le-mul}
+use Prim.Native.Nat.{_≤_, _-_}
+use mathlib.Core.Path.{_≡_, sym, _∙_}
+use native.Mathlib.Nat.{mul-le-mul}
+use native.Mathlib.Numerals.{add-one-le, add-one-dec}
 use native.Mathlib.Omega.{arith}
 use denote.Ref.{now}
-use lib.ListN.{length, getD}
-use Rattle.lists.proofs.Folding.{fold-none, fold-more, fold-end}
-use Rattle.lists.proofs.Parts.{part-lent, lent-long}
+use lib.ListN.{length}
+use Rattle.lists.proofs.Folding.{fold-none, fold-end}
 use Rattle.lists.specs.Fold.{fold}
-use Rattle.lists.specs.Part.{part}
-use Rattle.matrix.specs.Product.{rowMatOf}
 use Rattle.gate_set.specs.GateSet.{through}
+use Rattle.gate_set.proofs.Columns.{gateBy, gate-lent, gate-more}
 use borrow.Author.Needs.{needs}
 use Rattle.gate_set.proofs.run_both_of.Statement.{statement}
 use Rattle.gate_set.proofs.run_both_of.Tie as tie
 
 abbrev Inv-loop : tie.InvT-loop
-Inv-loop columns others d sequence x₀ y₀ n m k₀ x y k = (k ≤ n) × (length x ≡ d) × (length y ≡ d) × (x ≡ fold k (λ k z. rowMatOf d z (part (getD sequence k 0 * (d * d)) (d * d) columns)) x₀) × (y ≡ fold k (λ k z. rowMatOf d z (part (getD sequence k 0 * (d * d)) (d * d) others)) y₀)
+Inv-loop columns others d sequence x₀ y₀ n m k₀ x y k = (k ≤ n) × (length x ≡ d) × (length y ≡ d) × (x ≡ fold k (gateBy d columns sequence) x₀) × (y ≡ fold k (gateBy d others sequence) y₀)
 
 abbrev μ-loop : tie.MeasureT-loop
 μ-loop columns others d sequence x₀ y₀ n m k₀ x y k = n - k
@@ -25,7 +24,7 @@ mul-m : tie.Need-mul-m Inv-loop μ-loop
 mul-m c = omega (arith, mul-le-mul (c .before .before .before .before .before .pre .0) (c .before .before .before .before .before .pre .0))
 
 loop-holds : tie.Need-loop-holds Inv-loop μ-loop
-loop-holds c = (search needs, search needs, search needs, fold-none _ _, fold-none _ _)
+loop-holds c = (search needs, c .before .before .before .before .before .pre .1, c .before .before .before .before .before .pre .2, fold-none _ _, fold-none _ _)
 
 mul-from : tie.Need-mul-from Inv-loop μ-loop
 mul-from c = search needs
@@ -52,7 +51,7 @@ part-row-times-end : tie.Need-part-row-times-end Inv-loop μ-loop
 part-row-times-end c = c .before .before .before .before .before .before .before .before .before .pre .3 (c .before .before .before .loop .k) (c .before .before .loop-test .taken)
 
 row-times-requires : tie.Need-row-times-requires Inv-loop μ-loop
-row-times-requires c κs = (search needs, search needs, le-of-eq (sym (lent-long (getD (now (c .before .before .before .before .before .before .before .before .before .before .args .sequence)) (c .before .before .before .before .loop .k) 0 * (c .before .before .before .before .before .before .before .before .before .before .args .d * c .before .before .before .before .before .before .before .before .before .before .args .d)) _ (c .before .before .before .before .before .before .before .before .before .before .args .d * c .before .before .before .before .before .before .before .before .before .before .args .d) (now (c .before .before .before .before .before .before .before .before .before .before .args .columns)) refl (c .before .before .before .before .before .before .before .before .before .before .pre .3 (c .before .before .before .before .loop .k) (c .before .before .before .loop-test .taken)))))
+row-times-requires c κs = (c .before .before .before .before .before .before .before .before .before .before .pre .0, c .before .before .before .before .loop .inv .1, gate-lent (c .before .before .before .before .before .before .before .before .before .before .args .d) (now (c .before .before .before .before .before .before .before .before .before .before .args .columns)) (now (c .before .before .before .before .before .before .before .before .before .before .args .sequence)) (c .before .before .before .before .loop .k) (c .before .before .before .before .before .before .before .before .before .before .pre .3) (c .before .before .before .loop-test .taken))
 
 mul-row-times-2 : tie.Need-mul-row-times-2 Inv-loop μ-loop
 mul-row-times-2 c = omega (arith, c .before .before .before .before .before .before .before .before .before .before .before .before .before .before .pre .4 (c .before .before .before .before .before .before .before .before .loop .k) (c .before .before .before .before .before .before .before .loop-test .taken))
@@ -67,22 +66,22 @@ part-row-times-end-2 : tie.Need-part-row-times-end-2 Inv-loop μ-loop
 part-row-times-end-2 c = c .before .before .before .before .before .before .before .before .before .before .before .before .before .before .pre .4 (c .before .before .before .before .before .before .before .before .loop .k) (c .before .before .before .before .before .before .before .loop-test .taken)
 
 row-times-requires-2 : tie.Need-row-times-requires-2 Inv-loop μ-loop
-row-times-requires-2 c κs = (search needs, search needs, le-of-eq (sym (lent-long (getD (now (c .before .before .before .before .before .before .before .before .before .before .before .before .before .before .before .args .sequence)) (c .before .before .before .before .before .before .before .before .before .loop .k) 0 * (c .before .before .before .before .before .before .before .before .before .before .before .before .before .before .before .args .d * c .before .before .before .before .before .before .before .before .before .before .before .before .before .before .before .args .d)) _ (c .before .before .before .before .before .before .before .before .before .before .before .before .before .before .before .args .d * c .before .before .before .before .before .before .before .before .before .before .before .before .before .before .before .args .d) (now (c .before .before .before .before .before .before .before .before .before .before .before .before .before .before .before .args .others)) refl (c .before .before .before .before .before .before .before .before .before .before .before .before .before .before .before .pre .4 (c .before .before .before .before .before .before .before .before .before .loop .k) (c .before .before .before .before .before .before .before .before .loop-test .taken)))))
+row-times-requires-2 c κs = (c .before .before .before .before .before .before .before .before .before .before .before .before .before .before .before .pre .0, c .before .before .before .before .before .before .before .before .before .loop .inv .2, gate-lent (c .before .before .before .before .before .before .before .before .before .before .before .before .before .before .before .args .d) (now (c .before .before .before .before .before .before .before .before .before .before .before .before .before .before .before .args .others)) (now (c .before .before .before .before .before .before .before .before .before .before .before .before .before .before .before .args .sequence)) (c .before .before .before .before .before .before .before .before .before .loop .k) (c .before .before .before .before .before .before .before .before .before .before .before .before .before .before .before .pre .4) (c .before .before .before .before .before .before .before .before .loop-test .taken))
 
 add-k : tie.Need-add-k Inv-loop μ-loop
 add-k c = search needs
 
 loop-less : tie.Need-loop-less Inv-loop μ-loop
-loop-less c = search needs
+loop-less c = add-one-dec _ _ (c .before .before .before .before .before .before .before .before .before .before .before .loop-test .taken)
 
 loop-again : tie.Need-loop-again Inv-loop μ-loop
-loop-again c = (search needs, search needs, search needs, fold-more _ (c .before .before .before .before .before .before .before .before .before .before .before .before .loop .k) _ (c .before .before .before .before .before .before .before .before .before .before .before .before .loop .x) _ (c .before .before .before .before .before .before .before .before .before .before .before .before .loop .inv .3) (c .before .before .before .before .before .before .before .row-times .ensures ∙ ap (rowMatOf (c .before .before .before .before .before .before .before .before .before .before .before .before .before .before .before .before .before .before .args .d) (c .before .before .before .before .before .before .before .before .before .before .before .before .loop .x)) (part-lent (getD (now (c .before .before .before .before .before .before .before .before .before .before .before .before .before .before .before .before .before .before .args .sequence)) (c .before .before .before .before .before .before .before .before .before .before .before .before .loop .k) 0 * (c .before .before .before .before .before .before .before .before .before .before .before .before .before .before .before .before .before .before .args .d * c .before .before .before .before .before .before .before .before .before .before .before .before .before .before .before .before .before .before .args .d)) _ (c .before .before .before .before .before .before .before .before .before .before .before .before .before .before .before .before .before .before .args .d * c .before .before .before .before .before .before .before .before .before .before .before .before .before .before .before .before .before .before .args .d) (now (c .before .before .before .before .before .before .before .before .before .before .before .before .before .before .before .before .before .before .args .columns)) refl)), fold-more _ (c .before .before .before .before .before .before .before .before .before .before .before .before .loop .k) _ (c .before .before .before .before .before .before .before .before .before .before .before .before .loop .y) _ (c .before .before .before .before .before .before .before .before .before .before .before .before .loop .inv .4) (c .before .before .row-times2 .ensures ∙ ap (rowMatOf (c .before .before .before .before .before .before .before .before .before .before .before .before .before .before .before .before .before .before .args .d) (c .before .before .before .before .before .before .before .before .before .before .before .before .loop .y)) (part-lent (getD (now (c .before .before .before .before .before .before .before .before .before .before .before .before .before .before .before .before .before .before .args .sequence)) (c .before .before .before .before .before .before .before .before .before .before .before .before .loop .k) 0 * (c .before .before .before .before .before .before .before .before .before .before .before .before .before .before .before .before .before .before .args .d * c .before .before .before .before .before .before .before .before .before .before .before .before .before .before .before .before .before .before .args .d)) _ (c .before .before .before .before .before .before .before .before .before .before .before .before .before .before .before .before .before .before .args .d * c .before .before .before .before .before .before .before .before .before .before .before .before .before .before .before .before .before .before .args .d) (now (c .before .before .before .before .before .before .before .before .before .before .before .before .before .before .before .before .before .before .args .others)) refl)))
+loop-again c = (add-one-le (c .before .before .before .before .before .before .before .before .before .before .before .loop-test .taken), c .before .before .before .before .before .before .x .given ∙ c .before .before .before .before .before .before .before .before .before .before .before .before .loop .inv .1, c .before .y .given ∙ c .before .before .before .before .before .before .before .before .before .before .before .before .loop .inv .2, gate-more (c .before .before .before .before .before .before .before .before .before .before .before .before .before .before .before .before .before .before .args .d) (now (c .before .before .before .before .before .before .before .before .before .before .before .before .before .before .before .before .before .before .args .columns)) (now (c .before .before .before .before .before .before .before .before .before .before .before .before .before .before .before .before .before .before .args .sequence)) (c .before .before .before .before .before .before .before .before .before .before .before .before .loop .k) (now (c .before .before .before .before .before .before .before .before .before .before .before .before .before .before .before .before .before .before .args .x)) (c .before .before .before .before .before .before .before .before .before .before .before .before .loop .x) _ (c .before .before .before .before .before .before .before .before .before .before .before .before .loop .inv .3) (c .before .before .before .before .before .before .before .row-times .ensures), gate-more (c .before .before .before .before .before .before .before .before .before .before .before .before .before .before .before .before .before .before .args .d) (now (c .before .before .before .before .before .before .before .before .before .before .before .before .before .before .before .before .before .before .args .others)) (now (c .before .before .before .before .before .before .before .before .before .before .before .before .before .before .before .before .before .before .args .sequence)) (c .before .before .before .before .before .before .before .before .before .before .before .before .loop .k) (now (c .before .before .before .before .before .before .before .before .before .before .before .before .before .before .before .before .before .before .args .y)) (c .before .before .before .before .before .before .before .before .before .before .before .before .loop .y) _ (c .before .before .before .before .before .before .before .before .before .before .before .before .loop .inv .4) (c .before .before .row-times2 .ensures))
 
 same-length : tie.Need-same-length Inv-loop μ-loop
-same-length c = search needs
+same-length c = c .before .loop .inv .1 ∙ sym (c .before .before .before .before .before .before .before .pre .1)
 
 same-length-2 : tie.Need-same-length-2 Inv-loop μ-loop
-same-length-2 c = search needs
+same-length-2 c = c .before .loop .inv .2 ∙ sym (c .before .before .before .before .before .before .before .pre .2)
 
 returns : tie.Need-returns Inv-loop μ-loop
 unfolding through

@@ -1,22 +1,21 @@
 -- `gate_set::run_of` meets its contract. Assumes nothing.
-use Prim.Native.Nat.{_≤_, _-_, _*_}
-use mathlib.Core.Path.{_≡_, refl, sym, ap, _∙_}
-use native.Mathlib.Nat.{le-of-eq, mul-le-mul}
+use Prim.Native.Nat.{_≤_, _-_}
+use mathlib.Core.Path.{_≡_, sym, _∙_}
+use native.Mathlib.Nat.{mul-le-mul}
+use native.Mathlib.Numerals.{add-one-le, add-one-dec}
 use native.Mathlib.Omega.{arith}
 use denote.Ref.{now}
-use lib.ListN.{length, getD}
-use Rattle.lists.proofs.Folding.{fold-none, fold-more, fold-end}
-use Rattle.lists.proofs.Parts.{part-lent, lent-long}
+use lib.ListN.{length}
+use Rattle.lists.proofs.Folding.{fold-none, fold-end}
 use Rattle.lists.specs.Fold.{fold}
-use Rattle.lists.specs.Part.{part}
-use Rattle.matrix.specs.Product.{rowMatOf}
 use Rattle.gate_set.specs.GateSet.{through}
+use Rattle.gate_set.proofs.Columns.{gateBy, gate-lent, gate-more}
 use borrow.Author.Needs.{needs}
 use Rattle.gate_set.proofs.run_of.Statement.{statement}
 use Rattle.gate_set.proofs.run_of.Tie as tie
 
 abbrev Inv-loop : tie.InvT-loop
-Inv-loop columns d sequence x₀ n m k₀ x k = (k ≤ n) × (length x ≡ d) × (x ≡ fold k (λ k y. rowMatOf d y (part (getD sequence k 0 * (d * d)) (d * d) columns)) x₀)
+Inv-loop columns d sequence x₀ n m k₀ x k = (k ≤ n) × (length x ≡ d) × (x ≡ fold k (gateBy d columns sequence) x₀)
 
 abbrev μ-loop : tie.MeasureT-loop
 μ-loop columns d sequence x₀ n m k₀ x k = n - k
@@ -25,7 +24,7 @@ mul-m : tie.Need-mul-m Inv-loop μ-loop
 mul-m c = omega (arith, mul-le-mul (c .before .before .before .pre .0) (c .before .before .before .pre .0))
 
 loop-holds : tie.Need-loop-holds Inv-loop μ-loop
-loop-holds c = (search needs, search needs, fold-none _ _)
+loop-holds c = (search needs, c .before .before .before .pre .1, fold-none _ _)
 
 mul-start : tie.Need-mul-start Inv-loop μ-loop
 mul-start c = search needs
@@ -52,19 +51,19 @@ part-row-times-end : tie.Need-part-row-times-end Inv-loop μ-loop
 part-row-times-end c = c .before .before .before .before .before .before .before .pre .2 (c .before .before .before .loop .k) (c .before .before .loop-test .taken)
 
 row-times-requires : tie.Need-row-times-requires Inv-loop μ-loop
-row-times-requires c κs = let s = c .before .before .before .before .before .before .before .before in (search needs, search needs, le-of-eq (sym (lent-long (getD (now (s .args .sequence)) (c .before .before .before .before .loop .k) 0 * (s .args .d * s .args .d)) _ (s .args .d * s .args .d) (now (s .args .columns)) refl (s .pre .2 (c .before .before .before .before .loop .k) (c .before .before .before .loop-test .taken)))))
+row-times-requires c κs = (c .before .before .before .before .before .before .before .before .pre .0, c .before .before .before .before .loop .inv .1, gate-lent (c .before .before .before .before .before .before .before .before .args .d) (now (c .before .before .before .before .before .before .before .before .args .columns)) (now (c .before .before .before .before .before .before .before .before .args .sequence)) (c .before .before .before .before .loop .k) (c .before .before .before .before .before .before .before .before .pre .2) (c .before .before .before .loop-test .taken))
 
 add-k : tie.Need-add-k Inv-loop μ-loop
 add-k c = search needs
 
 loop-less : tie.Need-loop-less Inv-loop μ-loop
-loop-less c = search needs
+loop-less c = add-one-dec _ _ (c .before .before .before .before .before .before .loop-test .taken)
 
 loop-again : tie.Need-loop-again Inv-loop μ-loop
-loop-again c = let s = c .before .before .before .before .before .before .before .before .before .before .before in (search needs, search needs, fold-more _ (c .before .before .before .before .before .before .before .loop .k) _ (c .before .before .before .before .before .before .before .loop .x) _ (c .before .before .before .before .before .before .before .loop .inv .2) (c .before .before .row-times .ensures ∙ ap (rowMatOf (s .args .d) (c .before .before .before .before .before .before .before .loop .x)) (part-lent (getD (now (s .args .sequence)) (c .before .before .before .before .before .before .before .loop .k) 0 * (s .args .d * s .args .d)) _ (s .args .d * s .args .d) (now (s .args .columns)) refl)))
+loop-again c = (add-one-le (c .before .before .before .before .before .before .loop-test .taken), c .before .x .given ∙ c .before .before .before .before .before .before .before .loop .inv .1, gate-more (c .before .before .before .before .before .before .before .before .before .before .before .args .d) (now (c .before .before .before .before .before .before .before .before .before .before .before .args .columns)) (now (c .before .before .before .before .before .before .before .before .before .before .before .args .sequence)) (c .before .before .before .before .before .before .before .loop .k) (now (c .before .before .before .before .before .before .before .before .before .before .before .args .x)) (c .before .before .before .before .before .before .before .loop .x) _ (c .before .before .before .before .before .before .before .loop .inv .2) (c .before .before .row-times .ensures))
 
 same-length : tie.Need-same-length Inv-loop μ-loop
-same-length c = search needs
+same-length c = c .before .loop .inv .1 ∙ sym (c .before .before .before .before .before .pre .1)
 
 returns : tie.Need-returns Inv-loop μ-loop
 unfolding through

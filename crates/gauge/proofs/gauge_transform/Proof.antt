@@ -1,6 +1,7 @@
 -- `gauge::gauge_transform` meets its contract. Assumes nothing.
 use Rattle.gauge.proofs.Gauges.{inverse-length, transform-refused, transform-good}
-use Rattle.gauge.proofs.Lengths.{square-most, length-transform}
+use Rattle.sizes.proofs.Small.{square-most}
+use Rattle.gauge.proofs.Lengths.{length-transform}
 use Rattle.gauge.specs.Gauge.{invertedOf, inverseIn}
 use Rattle.card_parts.specs.Model.{transformOf}
 use Rattle.lists.proofs.Parts.{front-again, front-fits, front-length}

@@ -1,6 +1,6 @@
 -- `gauge::transform_effect` meets its contract. Assumes nothing.
 use Rattle.gauge.proofs.Lengths.{length-effect, effect-in-length}
-use Rattle.gauge.specs.Gauge.{effectIn}
+use Rattle.gauge.specs.Gauge.{newEffect}
 use Rattle.card_parts.specs.Model.{effectOf}
 use Rattle.matrix.specs.Product.{rowMatOf}
 use Rattle.lists.proofs.Parts.{front-again, front-length, over-front}
@@ -36,12 +36,12 @@ same-length : tie.Need-same-length
 same-length c = search needs
 
 returns : tie.Need-returns
-unfolding effectIn
+unfolding newEffect
 returns c =
     let s = c .before .before .before .before .before .before .before .before .before .before .before .before in
     let d = s .args .h .dimension in
     let e = front-again (effectOf (now (s .args .card)) (s .args .h) (s .args .k)) _ (c .before .before .before .before .before .before .load-effect .ensures) (length-effect _ _ _) in
-    over-front (effectIn (now (s .args .inverse)) (now (s .args .card)) (s .args .h) (s .args .k)) (now (s .args .out)) (effect-in-length _ _ (now (s .args .inverse)) _ _)
+    over-front (newEffect (now (s .args .inverse)) (now (s .args .card)) (s .args .h) (s .args .k)) (now (s .args .out)) (effect-in-length _ _ (now (s .args .inverse)) _ _)
     (c .before .before .row-mat .ensures ∙ ap (λ (x : List Float). rowMatOf d x (now (s .args .inverse)) ++ drop d (now (s .args .out))) e)
 
 pub transform-effect-spec : {M : Type 1} → statement M

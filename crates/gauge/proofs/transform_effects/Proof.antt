@@ -1,7 +1,7 @@
 -- `gauge::transform_effects` meets its contract. Assumes nothing.
 use borrow.Author.Needs.{needs}
 use Rattle.gauge.proofs.Lengths.{effects-length}
-use Rattle.gauge.specs.Gauge.{effectIn}
+use Rattle.gauge.specs.Gauge.{newEffect}
 use Rattle.lists.proofs.Joined.{Written, written-none, written-more, written-end}
 use Rattle.lists.proofs.Parts.{row-fits}
 use lib.ListN.{length, length-take, length-drop}
@@ -13,7 +13,7 @@ use Rattle.gauge.proofs.transform_effects.Statement.{statement}
 use Rattle.gauge.proofs.transform_effects.Tie as tie
 
 abbrev Inv-loop : tie.InvT-loop
-Inv-loop card h inverse out₀ count d k₀ out k = (k ≤ count) × (length out ≡ length out₀) × Written (effectIn inverse card h) out₀ k out
+Inv-loop card h inverse out₀ count d k₀ out k = (k ≤ count) × (length out ≡ length out₀) × Written (newEffect inverse card h) out₀ k out
 
 abbrev μ-loop : tie.MeasureT-loop
 μ-loop card h inverse out₀ count d k₀ out k = count - k
@@ -48,7 +48,7 @@ loop-less c = search needs
 loop-again : tie.Need-loop-again Inv-loop μ-loop
 loop-again c =
     let s = c .before .before .before .before .before .before .before .before .before in
-    (search needs, search needs, written-more (effectIn (now (s .args .inverse)) (now (s .args .card)) (s .args .h)) _ (c .before .before .before .before .before .loop .k) _ _ (c .before .before .before .before .before .loop .out) _ _ (effects-length _ _ (now (s .args .inverse)) _ _) refl (c .before .before .before .before .before .loop .inv .2) refl (c .before .before .transform-effect .ensures))
+    (search needs, search needs, written-more (newEffect (now (s .args .inverse)) (now (s .args .card)) (s .args .h)) _ (c .before .before .before .before .before .loop .k) _ _ (c .before .before .before .before .before .loop .out) _ _ (effects-length _ _ (now (s .args .inverse)) _ _) refl (c .before .before .before .before .before .loop .inv .2) refl (c .before .before .transform-effect .ensures))
 
 same-length : tie.Need-same-length Inv-loop μ-loop
 same-length c = search needs

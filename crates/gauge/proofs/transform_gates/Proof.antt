@@ -1,7 +1,8 @@
 -- `gauge::transform_gates` meets its contract. Assumes nothing.
 use borrow.Author.Needs.{needs}
-use Rattle.gauge.proofs.Lengths.{square-most, gates-length}
-use Rattle.gauge.specs.Gauge.{gateIn}
+use Rattle.sizes.proofs.Small.{square-most}
+use Rattle.gauge.proofs.Lengths.{gates-length}
+use Rattle.gauge.specs.Gauge.{newGate}
 use Rattle.lists.proofs.Joined.{Written, written-none, written-more, written-end}
 use Rattle.lists.proofs.Parts.{row-fits}
 use lib.ListN.{length, length-take, length-drop}
@@ -13,7 +14,7 @@ use Rattle.gauge.proofs.transform_gates.Statement.{statement}
 use Rattle.gauge.proofs.transform_gates.Tie as tie
 
 abbrev Inv-loop : tie.InvT-loop
-Inv-loop card h transform inverse out₀ count m left₀ g₀ out left g = (g ≤ count) × (length out ≡ length out₀) × Written (gateIn transform inverse card h) out₀ g out × (256 ≡ length left)
+Inv-loop card h transform inverse out₀ count m left₀ g₀ out left g = (g ≤ count) × (length out ≡ length out₀) × Written (newGate transform inverse card h) out₀ g out × (256 ≡ length left)
 
 abbrev μ-loop : tie.MeasureT-loop
 μ-loop card h transform inverse out₀ count m left₀ g₀ out left g = count - g
@@ -59,7 +60,7 @@ loop-again c =
     let s = c .before .before .before .before .before .before .before .before .before .before .before .before .before .before in
     let t = now (s .args .transform) in
     let i = now (s .args .inverse) in
-    (search needs, search needs, written-more (gateIn t i (now (s .args .card)) (s .args .h)) _ (c .before .before .before .before .before .before .before .loop .g) _ _ (c .before .before .before .before .before .before .before .loop .out) _ _ (gates-length _ _ t i _ ∙ ap (λ (m : ℕ). c .before .before .before .before .before .before .before .loop .g * m) (sym (c .before .before .before .before .before .before .before .before .before .square .ensures .0))) refl (c .before .before .before .before .before .before .before .loop .inv .2) refl (c .before .before .before .transform-gate .ensures), search needs)
+    (search needs, search needs, written-more (newGate t i (now (s .args .card)) (s .args .h)) _ (c .before .before .before .before .before .before .before .loop .g) _ _ (c .before .before .before .before .before .before .before .loop .out) _ _ (gates-length _ _ t i _ ∙ ap (λ (m : ℕ). c .before .before .before .before .before .before .before .loop .g * m) (sym (c .before .before .before .before .before .before .before .before .before .square .ensures .0))) refl (c .before .before .before .before .before .before .before .loop .inv .2) refl (c .before .before .before .transform-gate .ensures), search needs)
 
 same-length : tie.Need-same-length Inv-loop μ-loop
 same-length c = search needs

@@ -1,6 +1,6 @@
 -- `gauge::transform_state` meets its contract. Assumes nothing.
 use Rattle.gauge.proofs.Lengths.{length-state, state-in-length}
-use Rattle.gauge.specs.Gauge.{stateIn}
+use Rattle.gauge.specs.Gauge.{newState}
 use Rattle.card_parts.specs.Model.{stateOf}
 use Rattle.matrix.specs.Product.{matVecOf}
 use Rattle.lists.proofs.Parts.{front-again, front-length, over-front}
@@ -36,12 +36,12 @@ same-length : tie.Need-same-length
 same-length c = search needs
 
 returns : tie.Need-returns
-unfolding stateIn
+unfolding newState
 returns c =
     let s = c .before .before .before .before .before .before .before .before .before .before .before .before in
     let d = s .args .h .dimension in
     let e = front-again (stateOf (now (s .args .card)) (s .args .h)) _ (c .before .before .before .before .before .before .load-state .ensures) (length-state _ _) in
-    over-front (stateIn (now (s .args .transform)) (now (s .args .card)) (s .args .h)) (now (s .args .out)) (state-in-length _ _ _ (now (s .args .transform)))
+    over-front (newState (now (s .args .transform)) (now (s .args .card)) (s .args .h)) (now (s .args .out)) (state-in-length _ _ _ (now (s .args .transform)))
     (c .before .before .mat-vec .ensures ∙ ap (λ (x : List Float). matVecOf d (now (s .args .transform)) x ++ drop d (now (s .args .out))) e)
 
 pub transform-state-spec : {M : Type 1} → statement M

@@ -11,9 +11,6 @@ use borrow.Author.Needs.{needs}
 use Rattle.inversion.proofs.invert_within.Statement.{statement}
 use Rattle.inversion.proofs.invert_within.Tie as tie
 
-mul-scale-of : tie.Need-mul-scale-of
-mul-scale-of c = search needs
-
 scale-of-requires : tie.Need-scale-of-requires
 scale-of-requires c κs = search needs
 
@@ -73,7 +70,6 @@ pub invert-within-spec : {M : Type 1} → statement M
 invert-within-spec =
     tie.close
     (tie.spec
-    mul-scale-of
     scale-of-requires
     returns
     is-finite-requires

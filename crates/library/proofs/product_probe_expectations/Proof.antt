@@ -13,10 +13,10 @@ clear-requires : tie.Need-clear-requires
 clear-requires c κs = search needs
 
 same-length : tie.Need-same-length
-same-length c = search needs
+same-length c = c .before .before .before .before .before .before .before .result .given
 
 same-length-2 : tie.Need-same-length-2
-same-length-2 c = search needs
+same-length-2 c = c .before .work2 .given ∙ c .before .before .before .before .before .work .given
 
 returns : tie.Need-returns
 returns c = let ran = c .before .before .before .before .before .before .before .before .probes in record { gives = ran .ensures; blanked = c .before .before .clear .ensures ∙ blank-same (ran .last .1 .1 .0) (now (c .before .before .before .before .before .before .before .before .before .before .before .before .before .args .work)) (ran .kept .1 .1 .0) }

@@ -18,7 +18,7 @@ has-room-requires : tie.Need-has-room-requires
 has-room-requires c κs = search needs
 
 same-length : tie.Need-same-length
-same-length c = search needs
+same-length c = refl
 
 returns : tie.Need-returns
 returns c = stays _ (crowded _ _ _ (sym (c .before .has-room .ensures) ∙ not-true _ (c .if1 .taken)))
@@ -39,14 +39,14 @@ setting-requires c κs =
     (s .0, s .1, omega (arith, s .0, r .0))
 
 same-length-2 : tie.Need-same-length-2
-same-length-2 c = search needs
+same-length-2 c = refl
 
 returns-2 : tie.Need-returns-2
 unfolding settingEntry
 returns-2 c = entry-refused _ Setting _ _ _ (now (c .before .before .before .before .before .before .before .before .before .args .result)) _ (sym (c .before .before .before .before .before .has-room .ensures) ∙ not-false _ (c .before .before .before .before .if1 .left)) _ (c .before .before .before .check-setting .ensures) _ (c .before .found .given .1)
 
 same-length-3 : tie.Need-same-length-3
-same-length-3 c = search needs
+same-length-3 c = c .before .result .given
 
 returns-3 : tie.Need-returns-3
 unfolding settingEntry

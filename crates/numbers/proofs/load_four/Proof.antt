@@ -33,8 +33,8 @@ add-word-at-3 c = search needs
 word-at-requires-4 : tie.Need-word-at-requires-4
 word-at-requires-4 c κs = search needs
 
-are-no-nans-requires : tie.Need-are-no-nans-requires
-are-no-nans-requires c κs = search needs
+sizes-ored-requires : tie.Need-sizes-ored-requires
+sizes-ored-requires c κs = search needs
 
 load-each-requires : tie.Need-load-each-requires
 load-each-requires c κs = search needs
@@ -48,25 +48,25 @@ returns c =
     four-whole _ (now (z .args .out)) (z .pre .1) (c .before .before .load-each .ensures)
 
 float-from-bits-out : tie.Need-float-from-bits-out
-float-from-bits-out c = none-nan _ _ _ _ (c .before .are-no-nans .ensures) (c .if1 .left) .0
+float-from-bits-out c = none-nan (c .before .before .before .before .before .word-at .result) (c .before .before .before .before .word-at2 .result) (c .before .before .before .word-at3 .result) (c .before .before .word-at4 .result) (c .before .sizes-ored .ensures) (c .if1 .left) .0
 
 slice-write-out : tie.Need-slice-write-out
 slice-write-out c = search needs
 
 float-from-bits-out-2 : tie.Need-float-from-bits-out-2
-float-from-bits-out-2 c = none-nan _ _ _ _ (c .before .are-no-nans .ensures) (c .if1 .left) .1
+float-from-bits-out-2 c = none-nan (c .before .before .before .before .before .word-at .result) (c .before .before .before .before .word-at2 .result) (c .before .before .before .word-at3 .result) (c .before .before .word-at4 .result) (c .before .sizes-ored .ensures) (c .if1 .left) .1
 
 slice-write-out-2 : tie.Need-slice-write-out-2
 slice-write-out-2 c = search needs
 
 float-from-bits-out-3 : tie.Need-float-from-bits-out-3
-float-from-bits-out-3 c = none-nan _ _ _ _ (c .before .are-no-nans .ensures) (c .if1 .left) .2
+float-from-bits-out-3 c = none-nan (c .before .before .before .before .before .word-at .result) (c .before .before .before .before .word-at2 .result) (c .before .before .before .word-at3 .result) (c .before .before .word-at4 .result) (c .before .sizes-ored .ensures) (c .if1 .left) .2
 
 slice-write-out-3 : tie.Need-slice-write-out-3
 slice-write-out-3 c = search needs
 
 float-from-bits-out-4 : tie.Need-float-from-bits-out-4
-float-from-bits-out-4 c = none-nan _ _ _ _ (c .before .are-no-nans .ensures) (c .if1 .left) .3
+float-from-bits-out-4 c = none-nan (c .before .before .before .before .before .word-at .result) (c .before .before .before .before .word-at2 .result) (c .before .before .before .word-at3 .result) (c .before .before .word-at4 .result) (c .before .sizes-ored .ensures) (c .if1 .left) .3
 
 slice-write-out-4 : tie.Need-slice-write-out-4
 slice-write-out-4 c = search needs
@@ -107,7 +107,7 @@ load-four-spec =
     word-at-requires-3
     add-word-at-3
     word-at-requires-4
-    are-no-nans-requires
+    sizes-ored-requires
     load-each-requires
     same-length
     returns

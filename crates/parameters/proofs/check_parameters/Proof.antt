@@ -24,7 +24,7 @@ check-parameter-requires : tie.Need-check-parameter-requires Inv-loop μ-loop
 check-parameter-requires c κs = search needs
 
 first-of-requires : tie.Need-first-of-requires Inv-loop μ-loop
-first-of-requires c κs = search needs
+first-of-requires c κs = tt
 
 add-i : tie.Need-add-i Inv-loop μ-loop
 add-i c = search needs

@@ -11,7 +11,7 @@ config-of-requires : tie.Need-config-of-requires
 config-of-requires c κs = search needs
 
 is-good-requires : tie.Need-is-good-requires
-is-good-requires c κs = search needs
+is-good-requires c κs = tt
 
 returns : tie.Need-returns
 returns c = bad-controls _ _ (ap goodConfig (sym (c .before .before .config-of .ensures)) ∙ sym (c .before .is-good .ensures) ∙ not-true _ (c .if1 .taken))

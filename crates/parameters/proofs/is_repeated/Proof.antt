@@ -29,7 +29,7 @@ coordinate-word-requires-2 : tie.Need-coordinate-word-requires-2 Inv-loop μ-loo
 coordinate-word-requires-2 c κs = search needs
 
 either-requires : tie.Need-either-requires Inv-loop μ-loop
-either-requires c κs = search needs
+either-requires c κs = tt
 
 add-j : tie.Need-add-j Inv-loop μ-loop
 add-j c = search needs

@@ -1,53 +1,59 @@
 -- `pivots::scale_of` meets its contract. Assumes nothing.
-use Prim.Native.Nat.{_≤_, _-_}
-use mathlib.Core.Path.{_≡_}
+use Prim.Native.Nat.{_≤_, _-_, _*_}
+use mathlib.Core.Path.{_≡_, refl}
 use native.Mathlib.Omega.{arith}
 use denote.Ref.{now}
-use lib.Ieee.{ofBits}
-use Rattle.lists.specs.Fold.{fold}
-use Rattle.lists.proofs.Folding.{fold-none, fold-more, fold-end}
-use Rattle.numbers.specs.Number.{abs, max, zeroF}
-use Rattle.numbers.specs.Slice.{at}
+use Rattle.lists.proofs.Parts.{row-fits}
 use Rattle.pivots.specs.Pivots.{scaleOf}
-use Rattle.pivots.proofs.Sizes.{Sized, next-scale}
+use Rattle.pivots.proofs.Scales.{scale-none, row-joined, scale-end}
 use borrow.Author.Needs.{needs}
 use Rattle.pivots.proofs.scale_of.Statement.{statement}
 use Rattle.pivots.proofs.scale_of.Tie as tie
 
 abbrev Inv-loop : tie.InvT-loop
-Inv-loop a m s₀ k₀ s k = (k ≤ m) × (s ≡ fold k (λ k s. max s (abs (at a k))) zeroF) × Sized s
+Inv-loop a n s₀ i₀ s i = (i ≤ n) × (s ≡ scaleOf (i * n) a)
 
 abbrev μ-loop : tie.MeasureT-loop
-μ-loop a m s₀ k₀ s k = m - k
+μ-loop a n s₀ i₀ s i = n - i
 
 loop-holds : tie.Need-loop-holds Inv-loop μ-loop
-unfolding ofBits
-loop-holds c = (search needs, fold-none _ _, tt)
+loop-holds c = (search needs, scale-none _ _)
 
-mul-size-of : tie.Need-mul-size-of Inv-loop μ-loop
-mul-size-of c = search needs
+mul-start : tie.Need-mul-start Inv-loop μ-loop
+mul-start c = omega (arith, row-fits (c .before .loop .i) (c .before .before .before .args .n) (c .before .before .before .args .n) _ (c .loop-test .taken) (c .before .before .before .pre .1))
 
-shared-slice-read-size-of : tie.Need-shared-slice-read-size-of Inv-loop μ-loop
-shared-slice-read-size-of c = search needs
+add-end : tie.Need-add-end Inv-loop μ-loop
+add-end c = omega (arith, row-fits (c .before .loop .i) (c .before .before .before .args .n) (c .before .before .before .args .n) _ (c .loop-test .taken) (c .before .before .before .pre .1))
 
-size-of-requires : tie.Need-size-of-requires Inv-loop μ-loop
-size-of-requires c κs = search needs
+mul-row-scale : tie.Need-mul-row-scale Inv-loop μ-loop
+mul-row-scale c = omega (arith, row-fits (c .before .loop .i) (c .before .before .before .args .n) (c .before .before .before .args .n) _ (c .loop-test .taken) (c .before .before .before .pre .1))
+
+sub-row-scale : tie.Need-sub-row-scale Inv-loop μ-loop
+sub-row-scale c = search needs
+
+part-row-scale-start : tie.Need-part-row-scale-start Inv-loop μ-loop
+part-row-scale-start c = search needs
+
+part-row-scale-end : tie.Need-part-row-scale-end Inv-loop μ-loop
+part-row-scale-end c = omega (arith, row-fits (c .before .loop .i) (c .before .before .before .args .n) (c .before .before .before .args .n) _ (c .loop-test .taken) (c .before .before .before .pre .1))
+
+row-scale-requires : tie.Need-row-scale-requires Inv-loop μ-loop
+row-scale-requires c κs = search needs
 
 larger-requires : tie.Need-larger-requires Inv-loop μ-loop
 larger-requires c κs = search needs
 
-add-k : tie.Need-add-k Inv-loop μ-loop
-add-k c = search needs
+add-i : tie.Need-add-i Inv-loop μ-loop
+add-i c = search needs
 
 loop-less : tie.Need-loop-less Inv-loop μ-loop
 loop-less c = search needs
 
 loop-again : tie.Need-loop-again Inv-loop μ-loop
-loop-again c = let e = next-scale (c .before .before .before .before .loop .s) (at (now (c .before .before .before .before .before .before .args .a)) (c .before .before .before .before .loop .k)) _ _ (c .before .before .before .before .loop .inv .2) (c .before .size-of .ensures) (c .larger .ensures) in (search needs, fold-more _ _ _ _ _ (c .before .before .before .before .loop .inv .1) (e .0), e .1)
+loop-again c = (search needs, row-joined (c .before .before .before .before .before .before .args .n) (c .before .before .before .before .loop .i) _ (now (c .before .before .before .before .before .before .args .a)) (c .before .before .before .before .loop .s) _ _ refl (row-fits (c .before .before .before .before .loop .i) (c .before .before .before .before .before .before .args .n) (c .before .before .before .before .before .before .args .n) _ (c .before .before .before .loop-test .taken) (c .before .before .before .before .before .before .pre .1)) (c .before .before .before .before .loop .inv .1) (c .before .row-scale .ensures) (c .larger .ensures))
 
 returns : tie.Need-returns Inv-loop μ-loop
-unfolding scaleOf
-returns c = fold-end _ _ _ _ _ (omega arith) (c .before .loop .inv .1)
+returns c = scale-end _ _ _ _ (omega arith) (c .before .loop .inv .1)
 
 pub scale-of-spec : {M : Type 1} → statement M
 scale-of-spec =
@@ -56,11 +62,15 @@ scale-of-spec =
     Inv-loop
     μ-loop
     loop-holds
-    mul-size-of
-    shared-slice-read-size-of
-    size-of-requires
+    mul-start
+    add-end
+    mul-row-scale
+    sub-row-scale
+    part-row-scale-start
+    part-row-scale-end
+    row-scale-requires
     larger-requires
-    add-k
+    add-i
     loop-less
     loop-again
     returns)

@@ -7,8 +7,8 @@ use lib.ListN.{length}
 use lib.Ieee.{ofBits}
 use Rattle.descent.specs.declared.Search.the-variants.{Searching}
 use Rattle.descent.specs.Fit.{stepLength, searchTo}
-use Rattle.evaluation.specs.Job.{jobBy}
-use Rattle.evaluation.proofs.Lending.{lent-on}
+use Rattle.objective.specs.Job.{jobBy}
+use Rattle.objective.proofs.Lending.{lent-on}
 use Rattle.search.proofs.Trials.{length-first, length-halved, trial-by, search-none, search-on, search-found, search-lost, found-at, search-all}
 use borrow.Author.Needs.{needs}
 use Rattle.search.proofs.search.Statement.{statement}

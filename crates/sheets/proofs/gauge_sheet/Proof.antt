@@ -41,16 +41,16 @@ model-words-requires : tie.Need-model-words-requires
 model-words-requires c κs = search needs
 
 same-length : tie.Need-same-length
-same-length c = search needs
+same-length c = c .before .before .before .before .work .given
 
 returns : tie.Need-returns
 returns c = let s = c .before .before .before .before .before .before .before .before .before .before in (stays (now (s .args .result)) (gauge-refused _ _ _ _ (c .before .before .before .before .before .transform .ensures .0) (c .before .found .given .1)), c .before .before .before .before .before .transform .ensures .1)
 
 same-length-2 : tie.Need-same-length-2
-same-length-2 c = search needs
+same-length-2 c = c .before .before .result .given
 
 same-length-3 : tie.Need-same-length-3
-same-length-3 c = search needs
+same-length-3 c = c .before .before .before .before .before .before .before .before .before .before .work .given
 
 returns-2 : tie.Need-returns-2
 returns-2 c =

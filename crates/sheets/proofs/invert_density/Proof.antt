@@ -39,7 +39,7 @@ linear-inversion-requires : tie.Need-linear-inversion-requires
 linear-inversion-requires c κs = let s = c .before .before .before .before .before .before .before .before .before .before in (s .pre .0, front-length (numbersAt (now (s .args .card)) 2 _) _ (c .before .before .before .before .load .ensures) (length-numbers _ _ _) ∙ c .before .before .before .before .before .before .before .four-to .ensures .0, omega (arith, two-most (s .args .n) (s .pre .0), s .pre .2))
 
 same-length : tie.Need-same-length
-same-length c = search needs
+same-length c = c .before .work .given
 
 returns : tie.Need-returns
 returns c =

@@ -43,7 +43,7 @@ process-linear-inversion-requires : tie.Need-process-linear-inversion-requires
 process-linear-inversion-requires c κs = let s = c .before .before .before .before .before .before .before .before .before .before in (s .pre .0, s .pre .1, omega (arith, front-length (numbersAt (now (s .args .card)) 2 _) _ (c .before .before .before .before .load .ensures) (length-numbers _ _ _), c .before .before .before .before .before .before .before .square .ensures .0), omega (arith, square-most (s .args .p) (s .pre .1), s .pre .3))
 
 same-length : tie.Need-same-length
-same-length c = search needs
+same-length c = c .before .work .given
 
 returns : tie.Need-returns
 returns c =

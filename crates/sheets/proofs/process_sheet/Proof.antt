@@ -31,16 +31,16 @@ emit-requires : tie.Need-emit-requires
 emit-requires c κs = search needs
 
 same-length : tie.Need-same-length
-same-length c = search needs
+same-length c = c .before .before .before .before .work .given
 
 returns : tie.Need-returns
 returns c = let s = c .before .before .before .before .before .before .before .before .before .before .before in (stays (now (s .args .result)) (process-refused _ (s .args .n) _ (c .before .before .before .before .before .before .before .four-to .ensures .0) _ (c .before .before .before .before .before .invert-process .ensures .0) _ (c .before .found .given .1)), c .before .before .before .before .before .invert-process .ensures .1 ∙ ap (λ (p : ℕ). over (transferNumbers (now (s .args .card)) p) (now (s .args .work))) (c .before .before .before .before .before .before .before .four-to .ensures .0))
 
 same-length-2 : tie.Need-same-length-2
-same-length-2 c = search needs
+same-length-2 c = c .before .result .given
 
 same-length-3 : tie.Need-same-length-3
-same-length-3 c = search needs
+same-length-3 c = c .before .before .before .before .before .before .before .before .before .work .given
 
 returns-2 : tie.Need-returns-2
 returns-2 c = let s = c .before .before .before .before .before .before .before .before .before .before .before .before .before .before .before .before in (process-shown _ (s .args .n) _ (c .before .before .before .before .before .before .before .before .before .before .before .before .four-to .ensures .0) _ (c .before .before .before .before .before .before .before .before .before .before .invert-process .ensures .0) _ _ _ _ _ (c .before .before .before .before .before .before .enum-told .given .1) (c .before .before .before .before .square .ensures .0) (c .before .before .before .before .before .before .before .before .before .before .invert-process .ensures .1) (c .before .before .emit .ensures), c .before .before .before .before .before .before .before .before .before .before .invert-process .ensures .1 ∙ ap (λ (p : ℕ). over (transferNumbers (now (s .args .card)) p) (now (s .args .work))) (c .before .before .before .before .before .before .before .before .before .before .before .before .four-to .ensures .0))

@@ -42,7 +42,7 @@ project-density-requires : tie.Need-project-density-requires
 project-density-requires c κs = let s = c .before .before .before .before .before .before .before .before .before .before .before in (front-length (numbersAt (now (s .args .card)) 3 _) _ (c .before .before .before .before .before .load .ensures) (length-numbers _ _ _) ∙ ap (λ (q : ℕ). 2 * q) (c .before .before .before .before .before .before .before .before .square .ensures .0), s .pre .0, s .pre .1, omega (arith, estimate-most (s .args .d) (s .pre .1), s .pre .3))
 
 same-length : tie.Need-same-length
-same-length c = search needs
+same-length c = c .before .work .given
 
 returns : tie.Need-returns
 returns c =

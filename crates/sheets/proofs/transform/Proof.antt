@@ -29,7 +29,7 @@ returns c =
     (r .0, ap (λ (x : List Float). over x (now (s .args .work))) (r .1))
 
 same-length : tie.Need-same-length
-same-length c = search needs
+same-length c = c .before .work .given
 
 returns-2 : tie.Need-returns-2
 returns-2 c =

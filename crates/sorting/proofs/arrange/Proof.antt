@@ -8,8 +8,8 @@ use Rattle.sorting.proofs.arrange.Tie as tie
 sort-requires : tie.Need-sort-requires
 sort-requires c κs = search needs
 
-values-requires : tie.Need-values-requires
-values-requires c κs = (search needs, order-in _ _ _ _ refl (search needs) (c .before .before .before .before .sort .ensures) _ (search needs))
+gather-requires : tie.Need-gather-requires
+gather-requires c κs = (search needs, order-in _ _ _ _ refl (search needs) (c .before .before .before .before .sort .ensures) _ (search needs))
 
 same-length : tie.Need-same-length
 same-length c = search needs
@@ -18,7 +18,7 @@ same-length-2 : tie.Need-same-length-2
 same-length-2 c = search needs
 
 returns : tie.Need-returns
-returns c = (order-is _ _ _ _ refl (search needs) (c .before .before .before .before .before .before .before .sort .ensures), sorted-is _ _ _ _ refl (search needs) (c .before .before .before .before .before .before .before .sort .ensures) _ _ (search needs) (c .before .before .values .ensures))
+returns c = (order-is _ _ _ _ refl (search needs) (c .before .before .before .before .before .before .before .sort .ensures), sorted-is _ _ _ _ refl (search needs) (c .before .before .before .before .before .before .before .sort .ensures) _ _ (search needs) (c .before .before .gather .ensures))
 
 pub arrange-spec : {M : Type 1} → statement M
-arrange-spec = tie.close (tie.spec sort-requires values-requires same-length same-length-2 returns)
+arrange-spec = tie.close (tie.spec sort-requires gather-requires same-length same-length-2 returns)

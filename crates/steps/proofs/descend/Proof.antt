@@ -1,9 +1,10 @@
 -- `steps::descend` meets its contract. Assumes nothing.
-use mathlib.Core.Path.{sym}
+use mathlib.Core.Path.{refl, sym}
 use native.Mathlib.Omega.{arith}
 use denote.Ref.{now}
 use lib.Seq.{length-take-le}
-use Rattle.evaluation.specs.Job.{jobBy}
+use Rattle.objective.specs.Job.{jobBy}
+use Rattle.objective.proofs.Lending.{fits-room}
 use Rattle.steps.proofs.Stepping.{found-few, level, stalled, lost, accepted}
 use borrow.Author.Needs.{needs}
 use Rattle.steps.proofs.descend.Statement.{statement}
@@ -22,39 +23,39 @@ returns c =
     level J (s .args .r) _ (s .pre .2) _ _ (s .pre .4) (s .pre .0 .placed .few) (s .pre .1) (c .before .if1 .taken) (c .with-status .ensures)
 
 room-requires : tie.Need-room-requires
-room-requires c κs = search needs
+room-requires c κs = tt
 
 array-share-prefix-x : tie.Need-array-share-prefix-x
-array-share-prefix-x c = search needs
+array-share-prefix-x c = let s = c .before .before .before .before .before .before .before .before .before in fits-room _ _ _ _ refl (s .pre .0 .placed .few) (sym (s .pre .2 .room))
 
 slice-aggregate-search : tie.Need-slice-aggregate-search
 slice-aggregate-search c =
     let s = c .before .before .before .before .before .before .before .before .before .before in
-    sym (length-take-le _ _ (omega (arith, s .pre .0 .placed .few, s .pre .2 .room)))
+    sym (length-take-le _ _ (fits-room _ _ _ _ refl (s .pre .0 .placed .few) (sym (s .pre .2 .room))))
 
 array-share-prefix-g : tie.Need-array-share-prefix-g
-array-share-prefix-g c = search needs
+array-share-prefix-g c = let s = c .before .before .before .before .before .before .before .before .before .before in fits-room _ _ _ _ refl (s .pre .0 .placed .few) (sym (s .pre .3))
 
 slice-aggregate-search-2 : tie.Need-slice-aggregate-search-2
 slice-aggregate-search-2 c =
     let s = c .before .before .before .before .before .before .before .before .before .before .before in
-    sym (length-take-le _ _ (omega (arith, s .pre .0 .placed .few, s .pre .3)))
+    sym (length-take-le _ _ (fits-room _ _ _ _ refl (s .pre .0 .placed .few) (sym (s .pre .3))))
 
 array-borrow-prefix-t : tie.Need-array-borrow-prefix-t
-array-borrow-prefix-t c = search needs
+array-borrow-prefix-t c = let s = c .before .before .before .before .before .before .before .before .before .before .before in fits-room _ _ _ _ refl (s .pre .0 .placed .few) (c .before .before .room .ensures)
 
 slice-aggregate-search-3 : tie.Need-slice-aggregate-search-3
 slice-aggregate-search-3 c =
     let s = c .before .before .before .before .before .before .before .before .before .before .before .before in
-    sym (length-take-le _ _ (omega (arith, s .pre .0 .placed .few, c .before .before .before .room .ensures)))
+    sym (length-take-le _ _ (fits-room _ _ _ _ refl (s .pre .0 .placed .few) (c .before .before .before .room .ensures)))
 
 search-requires : tie.Need-search-requires
 search-requires c κs =
     let s = c .before .before .before .before .before .before .before .before .before .before .before .before .before .before in
-    (s .pre .0, length-take-le _ _ (omega (arith, s .pre .0 .placed .few, s .pre .2 .room)), length-take-le _ _ (omega (arith, s .pre .0 .placed .few, s .pre .3)), length-take-le _ _ (omega (arith, s .pre .0 .placed .few, c .before .before .before .before .before .room .ensures)), s .pre .1)
+    (s .pre .0, length-take-le _ _ (fits-room _ _ _ _ refl (s .pre .0 .placed .few) (sym (s .pre .2 .room))), length-take-le _ _ (fits-room _ _ _ _ refl (s .pre .0 .placed .few) (sym (s .pre .3))), length-take-le _ _ (fits-room _ _ _ _ refl (s .pre .0 .placed .few) (c .before .before .before .before .before .room .ensures)), s .pre .1)
 
 enum-told : tie.Need-enum-told
-enum-told c = search needs
+enum-told c = c .match .keys1
 
 add-with-status : tie.Need-add-with-status
 add-with-status c =
@@ -67,7 +68,7 @@ with-status-requires-2 c κs =
     (s .pre .2 .evaluations, omega (arith, s .pre .0 .placed .few, s .pre .1))
 
 enum-known-found : tie.Need-enum-known-found
-enum-known-found c = search needs
+enum-known-found c = c .match .keys2
 
 add-moved : tie.Need-add-moved
 add-moved c =
@@ -88,7 +89,7 @@ moved-requires c κs =
     (s .pre .2 .evaluations, s .pre .2 .steps, omega (arith, found-few J _ _ _ _ (s .pre .0 .placed .few) (s .pre .1) (c .before .before .before .before .before .before .before .before .search .ensures .1) (c .before .found .given .1)))
 
 enum-known-found-2 : tie.Need-enum-known-found-2
-enum-known-found-2 c = search needs
+enum-known-found-2 c = c .match .keys3
 
 with-status-requires-3 : tie.Need-with-status-requires-3
 with-status-requires-3 c κs =
@@ -96,10 +97,10 @@ with-status-requires-3 c κs =
     (s .pre .2 .evaluations, omega arith)
 
 same-length : tie.Need-same-length
-same-length c = search needs
+same-length c = c .before .before .before .before .before .before .before .before .before .search .kept .1 .1 .1 .1 .1 .1 .1 .1 .1 .0
 
 same-length-2 : tie.Need-same-length-2
-same-length-2 c = search needs
+same-length-2 c = c .before .before .before .before .before .before .before .before .before .search .kept .1 .1 .1 .1 .1 .1 .1 .1 .1 .1 .0
 
 returns-2 : tie.Need-returns-2
 returns-2 c =
@@ -108,10 +109,10 @@ returns-2 c =
     stalled J (s .args .r) _ (s .pre .2) _ _ (s .pre .4) (s .pre .0 .placed .few) (s .pre .1) (c .before .before .before .before .before .before .before .before .before .before .before .before .before .before .before .before .before .if1 .left) _ (c .before .before .before .before .before .before .before .before .before .search .ensures .0) (c .before .before .enum-told .given .1) (c .with-status2 .ensures)
 
 same-length-3 : tie.Need-same-length-3
-same-length-3 c = search needs
+same-length-3 c = c .before .before .before .before .before .before .before .before .before .search .kept .1 .1 .1 .1 .1 .1 .1 .1 .1 .0
 
 same-length-4 : tie.Need-same-length-4
-same-length-4 c = search needs
+same-length-4 c = c .before .before .before .before .before .before .before .before .before .search .kept .1 .1 .1 .1 .1 .1 .1 .1 .1 .1 .0
 
 returns-3 : tie.Need-returns-3
 returns-3 c =
@@ -120,10 +121,10 @@ returns-3 c =
     accepted J (s .args .r) _ (s .pre .2) _ _ (s .pre .4) (s .pre .0 .placed .few) (s .pre .1) (c .before .before .before .before .before .before .before .before .before .before .before .before .before .before .before .before .before .if1 .left) _ (c .before .before .before .before .before .before .before .before .before .search .ensures .0) _ (c .before .before .before .before .before .before .before .before .before .before .before .before .before .before .before .room .result) (sym (c .before .before .before .before .before .before .before .before .before .before .before .before .before .before .before .room .ensures)) (c .before .before .before .before .before .before .before .before .before .search .ensures .1) (c .before .before .found .given .1) (c .moved .ensures)
 
 same-length-5 : tie.Need-same-length-5
-same-length-5 c = search needs
+same-length-5 c = c .before .before .before .before .before .before .before .before .before .search .kept .1 .1 .1 .1 .1 .1 .1 .1 .1 .0
 
 same-length-6 : tie.Need-same-length-6
-same-length-6 c = search needs
+same-length-6 c = c .before .before .before .before .before .before .before .before .before .search .kept .1 .1 .1 .1 .1 .1 .1 .1 .1 .1 .0
 
 returns-4 : tie.Need-returns-4
 returns-4 c =

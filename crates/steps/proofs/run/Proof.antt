@@ -8,8 +8,8 @@ use borrow.Author.Tests.{not-true, not-false}
 use Rattle.lists.specs.Fold.{fold}
 use Rattle.lists.proofs.Folding.{fold-none, fold-end}
 use Rattle.descent.specs.Fit.{next}
-use Rattle.evaluation.specs.Job.{jobBy}
-use Rattle.evaluation.proofs.Lending.{lent-on}
+use Rattle.objective.specs.Job.{jobBy}
+use Rattle.objective.proofs.Lending.{lent-on}
 use Rattle.steps.specs.Running.{pointOf, stateOf, Normed}
 use Rattle.steps.proofs.Runs.{run-more, run-ended}
 use borrow.Author.Needs.{needs}
@@ -40,13 +40,13 @@ loop-holds c =
     )
 
 is-going-requires : tie.Need-is-going-requires Inv-loop μ-loop
-is-going-requires c κs = search needs
+is-going-requires c κs = tt
 
 same-length : tie.Need-same-length Inv-loop μ-loop
-same-length c = search needs
+same-length c = c .before .before .before .loop .inv .1
 
 same-length-2 : tie.Need-same-length-2 Inv-loop μ-loop
-same-length-2 c = search needs
+same-length-2 c = c .before .before .before .loop .inv .2
 
 returns : tie.Need-returns Inv-loop μ-loop
 returns c =
@@ -94,10 +94,10 @@ loop-again c =
     )
 
 same-length-3 : tie.Need-same-length-3 Inv-loop μ-loop
-same-length-3 c = search needs
+same-length-3 c = c .before .loop .inv .1
 
 same-length-4 : tie.Need-same-length-4 Inv-loop μ-loop
-same-length-4 c = search needs
+same-length-4 c = c .before .loop .inv .2
 
 returns-2 : tie.Need-returns-2 Inv-loop μ-loop
 returns-2 c =

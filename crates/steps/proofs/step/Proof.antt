@@ -1,8 +1,8 @@
 -- `steps::step` meets its contract. Assumes nothing.
-use mathlib.Core.Path.{subst}
+use mathlib.Core.Path.{subst, _∙_}
 use denote.Ref.{now}
-use Rattle.evaluation.specs.Job.{jobBy}
-use Rattle.evaluation.proofs.Lending.{lent-on}
+use Rattle.objective.specs.Job.{jobBy}
+use Rattle.objective.proofs.Lending.{lent-on}
 use Rattle.steps.specs.Running.{Sloped}
 use Rattle.steps.proofs.Stepping.{unsloped}
 use borrow.Author.Needs.{needs}
@@ -10,7 +10,7 @@ use Rattle.steps.proofs.step.Statement.{statement}
 use Rattle.steps.proofs.step.Tie as tie
 
 room-requires : tie.Need-room-requires
-room-requires c κs = search needs
+room-requires c κs = tt
 
 slice-aggregate-slope-at : tie.Need-slice-aggregate-slope-at
 slice-aggregate-slope-at c = search needs
@@ -19,33 +19,33 @@ slope-at-requires : tie.Need-slope-at-requires
 slope-at-requires c κs = search needs
 
 enum-known-found : tie.Need-enum-known-found
-enum-known-found c = search needs
+enum-known-found c = c .match .keys1
 
 descend-requires : tie.Need-descend-requires
 descend-requires c κs =
     let s = c .before .before .before .before .before .before .before .before .before .before .before .before .before .before .before .before .before .before .before .before in
-    (lent-on _ _ (s .pre .0) (search needs) (search needs), s .pre .1, s .pre .2, search needs, subst (Sloped _ _ _) (c .before .before .before .found .given .1) (c .before .before .before .before .before .before .before .before .before .before .slope-at .ensures .0))
+    (lent-on _ _ (s .pre .0) (c .before .before .before .before .before .before .before .before .before .before .slope-at .kept .1 .1 .1 .1 .1 .1 .1 .0) (c .before .before .before .before .before .before .before .before .before .before .slope-at .kept .1 .1 .1 .1 .1 .1 .1 .1 .0), s .pre .1, s .pre .2, search needs, subst (Sloped _ _ _) (c .before .before .before .found .given .1) (c .before .before .before .before .before .before .before .before .before .before .slope-at .ensures .0))
 
 enum-known-found-2 : tie.Need-enum-known-found-2
-enum-known-found-2 c = search needs
+enum-known-found-2 c = c .match .keys2
 
 with-status-requires : tie.Need-with-status-requires
 with-status-requires c κs = search needs
 
 same-length : tie.Need-same-length
-same-length c = search needs
+same-length c = c .before .before .before .before .descend .kept .1 .1 .1 .1 .1 .1 .1 .1 .0 ∙ c .before .before .before .before .before .before .before .before .before .before .before .before .before .before .before .slope-at .kept .1 .1 .1 .1 .1 .1 .1 .0
 
 same-length-2 : tie.Need-same-length-2
-same-length-2 c = search needs
+same-length-2 c = c .before .before .before .before .descend .kept .1 .1 .1 .1 .1 .1 .1 .1 .1 .0 ∙ c .before .before .before .before .before .before .before .before .before .before .before .before .before .before .before .slope-at .kept .1 .1 .1 .1 .1 .1 .1 .1 .0
 
 returns : tie.Need-returns
 returns c = search needs
 
 same-length-3 : tie.Need-same-length-3
-same-length-3 c = search needs
+same-length-3 c = c .before .before .before .before .before .before .before .before .before .slope-at .kept .1 .1 .1 .1 .1 .1 .1 .0
 
 same-length-4 : tie.Need-same-length-4
-same-length-4 c = search needs
+same-length-4 c = c .before .before .before .before .before .before .before .before .before .slope-at .kept .1 .1 .1 .1 .1 .1 .1 .1 .0
 
 returns-2 : tie.Need-returns-2
 returns-2 c =

@@ -1,5 +1,5 @@
 -- `transfer::invert_inputs` meets its contract. Assumes nothing.
-use Rattle.transfer.proofs.Vectors.{square-most}
+use Rattle.sizes.proofs.Small.{square-most}
 use Rattle.transfer.specs.Process.{inputsOf}
 use Rattle.matrix.proofs.Transposes.{length-transposed}
 use Rattle.inversion.specs.Inversion.{invertible, inverseOf}

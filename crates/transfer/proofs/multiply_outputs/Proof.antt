@@ -10,7 +10,7 @@ use lib.Ieee.{Float}
 use Rattle.lists.proofs.Parts.{front-again, front-fits, front-length}
 use Rattle.matrix.specs.Product.{matMulOf, transposedOf}
 use Rattle.matrix.proofs.Transposes.{length-transposed}
-use Rattle.transfer.proofs.Vectors.{square-most}
+use Rattle.sizes.proofs.Small.{square-most}
 use borrow.Author.Needs.{needs}
 use Rattle.transfer.proofs.multiply_outputs.Statement.{statement}
 use Rattle.transfer.proofs.multiply_outputs.Tie as tie

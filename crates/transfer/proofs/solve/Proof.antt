@@ -1,6 +1,6 @@
 -- `transfer::solve` meets its contract. Assumes nothing.
 use Rattle.transfer.proofs.Processes.{singular, singular-numbers, length-transfer, product-is, numbers-over, solved}
-use Rattle.transfer.proofs.Vectors.{square-most}
+use Rattle.sizes.proofs.Small.{square-most}
 use Rattle.transfer.specs.Process.{inputsOf, transferOf}
 use Rattle.inversion.proofs.Reductions.{length-inverse}
 use Rattle.inversion.specs.Inversion.{inverseOf}

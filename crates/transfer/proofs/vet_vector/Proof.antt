@@ -1,6 +1,7 @@
 -- `transfer::vet_vector` meets its contract. Assumes nothing.
 use Rattle.lists.proofs.Parts.{part-lent}
-use Rattle.transfer.proofs.Vectors.{vector-fits, square-most}
+use Rattle.sizes.proofs.Small.{square-most}
+use Rattle.transfer.proofs.Vectors.{vector-fits}
 use Rattle.pauli.specs.Density.{vetOf}
 use Prim.Native.Nat.{_*_}
 use denote.Ref.{now}

@@ -1,0 +1,4 @@
+pub mod Lending
+pub mod Maps
+pub mod Puts
+pub mod Distances
