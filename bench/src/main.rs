@@ -1,5 +1,5 @@
 //! The port and the Rust on the same cards and calls, in one process: `bench [ROUNDS [KIND..]]`. KIND is 1 to 7, `probes`,
-//! `apply`, `choi`, `probabilities`, `sqrt`, `ln` or `growth`.
+//! `apply`, `choi`, `probabilities`, `sqrt`, `ln`, `growth` or `plain`.
 //!
 //! A round runs a batch of each in turn, so that a slower or faster stretch of the machine meets all of them. The median
 //! over the rounds is printed, in processor time.
@@ -8,6 +8,8 @@
 //! (`port`, `alone`, `words` or `refused`) and prints nothing, for a count of instructions.
 
 mod cards;
+#[cfg(plain)]
+mod plain;
 
 use reference::card::{self, Job};
 use reference::hooks::with_rotations;
@@ -30,11 +32,11 @@ const NUMBERS: usize = 4096;
 /// All rounds of one row last about this long at most, if there are enough of them.
 const ROW_NS: f64 = 8e9;
 const LEAST_ROUNDS: usize = 9;
-const USAGE: &str = "bench [ROUNDS [1..7 | probes | apply | choi | probabilities | sqrt | ln | growth]..]
+const USAGE: &str = "bench [ROUNDS [1..7 | probes | apply | choi | probabilities | sqrt | ln | growth | plain]..]
 bench list
 bench calls NUMBER port|alone|words|refused COUNT";
-const GROUPS: [&str; 14] =
-    ["1", "2", "3", "4", "5", "6", "7", "probes", "apply", "choi", "probabilities", "sqrt", "ln", "growth"];
+const GROUPS: [&str; 15] =
+    ["1", "2", "3", "4", "5", "6", "7", "probes", "apply", "choi", "probabilities", "sqrt", "ln", "growth", "plain"];
 /// The sides in the order of a card's runs.
 const SIDES: [&str; 4] = ["port", "alone", "words", "refused"];
 /// What is timed, with the name that is printed.
@@ -252,13 +254,19 @@ fn medians(runs: &mut [Run], rounds: usize) -> (Vec<f64>, usize) {
     (times.into_iter().map(median).collect(), rounds)
 }
 
-/// Times the runs, the port's first, and prints how often the port's time goes into that of the next two.
-fn report(title: &str, mut runs: Vec<Run>, rounds: usize) {
+/// Times the runs and prints the median of each.
+fn median_report(title: &str, mut runs: Vec<Run>, rounds: usize) -> Vec<f64> {
     let (medians, rounds) = medians(&mut runs, rounds);
     println!("{title} ({rounds} rounds, median ns a call)");
     for ((label, _), ns) in runs.iter().zip(&medians) {
-        println!("  {label:36} {ns:12.1}");
+        println!("  {label:37}{ns:12.1}");
     }
+    medians
+}
+
+/// The port's run is the first, and how often its time goes into that of the next two is printed.
+fn report(title: &str, runs: Vec<Run>, rounds: usize) {
+    let medians = median_report(title, runs, rounds);
     println!("  Rust alone / port                    {:12.2}", medians[1] / medians[0]);
     println!("  Rust to words / port                 {:12.2}", medians[2] / medians[0]);
     if let [port, alone, _, _, port_uncomputed, alone_uncomputed] = medians[..] {
@@ -440,6 +448,14 @@ fn main() {
     for (group, title, timed) in all() {
         if wanted(&group) {
             report(&title, timed.runs(), rounds);
+        }
+    }
+    #[cfg(plain)]
+    if wanted("plain") {
+        for (_, title, timed) in all() {
+            if let Timed::Card(words) = timed {
+                plain::report(&title, &words, rounds);
+            }
         }
     }
     if BUILT.contains(&5) && wanted("growth") {

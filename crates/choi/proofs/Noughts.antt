@@ -1,7 +1,7 @@
 -- Zeros of either sign, in products, and in sums that are not -0. Assumes nothing.
 use mathlib.Core.Path.{_≡_, refl, sym, _∙_, ap, ap₂}
 use mathlib.Core.Bool.{Bool, true, false, not}
-use Prim.Native.Nat.{ℕ, zero, suc, _+_, _*_, _^_, _<_}
+use Prim.Native.Nat.{ℕ, zero, suc, _*_, _^_, _<_}
 use native.Mathlib.Nat.{zero-mul, mul-zero, mul-one, one-mul, mul-pos, zero-add, zero-lt-suc, sub-zero}
 use lib.IntN.{ℤ, pos, negsuc}
 use lib.Dec.{T}

@@ -1,7 +1,7 @@
 -- Complex numbers of which one part, or none, is not zero; their products, added to a sum. Assumes nothing.
 use mathlib.Core.Path.{_≡_, _∙_, ap, ap₂}
 use mathlib.Core.Bool.{true, cond}
-use Prim.Native.Nat.{ℕ, zero, suc, _+_, _-_, _*_, _%_, _<_}
+use Prim.Native.Nat.{ℕ, zero, suc, _+_, _-_, _%_, _<_}
 use native.Mathlib.Omega.{arith}
 use lib.Dec.{eqb}
 use lib.Ieee.{Float, binary64, neg, sub}

@@ -3,7 +3,8 @@ use mathlib.Core.Path.{_≡_, refl, sym, _∙_, ap, ap₂, subst}
 use mathlib.Core.Bool.{Bool, true, false, cond}
 use mathlib.Core.List.{List, _++_}
 use mathlib.Core.Logic.{_⊎_, inl, inr, ⊎-elim}
-use Prim.Native.Nat.{ℕ, zero, suc, _+_, _-_, _*_, _/_, _≤_, _<_}
+use Prim.Native.Nat.{ℕ, zero, suc, _+_, _-_, _*_, _≤_, _<_}
+use native.Mathlib.Nat.{le-refl}
 use native.Mathlib.Omega.{arith}
 use lib.Dec.{eqb, ltb}
 use lib.ListN.{length, take, drop, List·getD-append}
@@ -16,16 +17,8 @@ use Rattle.lists.proofs.Filling.{length-build, getD-build}
 use Rattle.lists.proofs.Parts.{length-part, length-put, row-fits, row-in}
 use Rattle.numbers.specs.Number.{_-ᶠ_, _*ᶠ_, _/ᶠ_}
 use Rattle.numbers.specs.Slice.{at}
-use Rattle.elimination.specs.Rows.{rowOf, onRow, dividedRow, dividedFrom, lessRow, eliminatedRow, clearedBy, Agree, eliminatedFrom, clearedFrom, firstColumn}
+use Rattle.elimination.specs.Rows.{rowOf, onRow, dividedRow, dividedFrom, lessRow, eliminatedRow, clearedBy, Agree, eliminatedFrom, clearedFrom}
 use Rattle.elimination.proofs.Lent.{length-divided, length-from, cleared-once}
-
-pub first-before : (w k : ℕ) → firstColumn w k ≤ k
-unfolding firstColumn
-first-before w k = go (eqb w 32)
-  where
-    go : (b : Bool) → cond b (k / 4 * 4) 0 ≤ k
-    go true = omega arith
-    go false = omega arith
 
 -- an entry of a list whose part from a on, of m entries, was written over with r
 module _ (a m : ℕ) (r l : List Float) (h : a + m ≤ length l) (k : length r ≡ m) where
@@ -183,3 +176,15 @@ module _ (c w m k : ℕ) (ck : c ≤ k) (kw : k < w) where
       let moved = row-agrees c w m p u v (rowOf w k u) (rowOf w k v) (omega arith) fp h ku kv (row k fk) in
       subst (Agree c w m (clearedFrom b n w k p u)) (cleared-once n w k p v (omega (arith, h .1)) (omega (arith, h .1)))
       (steps-agree b n (dividedFrom b k (rowOf w p u)) (dividedRow k (rowOf w p v)) _ _ bc f du dv quotient (row-agrees c w m k _ _ (dividedFrom b k (rowOf w p u)) (dividedRow k (rowOf w p v)) (omega arith) fk moved du dv quotient))
+
+-- column k cleared from column b on is cleared in full, but for the columns before k
+pub cleared-from : (b n w k p : ℕ) (l x : List Float) → b ≤ k → k < n → p < n → k < w → n * w ≤ length l → x ≡ clearedFrom b n w k p l → Agree k w (length l) x (clearedBy n w k p l)
+cleared-from b n w k p l x bk kn pn kw f e =
+    subst (λ (y : List Float). Agree k w (length l) y (clearedBy n w k p l)) (sym e) (cleared-agree k w (length l) k (le-refl k) kw b n p l l bk kn pn f (refl, refl, λ i j _ _ _. refl))
+
+-- so it is of a matrix that agrees with it from column k on
+pub cleared-alike : (n w k p m : ℕ) (x u v : List Float) → k < n → p < n → k < w → n * w ≤ m → Agree k w m u v → Agree k w m x (clearedBy n w k p u) → Agree k w m x (clearedBy n w k p v)
+cleared-alike n w k p m x u v kn pn kw f h e =
+    let own = cleared-agree k w m k (le-refl k) kw 0 n p u u (omega arith) kn pn f (h .0, h .0, λ i j _ _ _. refl) in
+    let other = cleared-agree k w m k (le-refl k) kw 0 n p u v (omega arith) kn pn f h in
+    (e .0, other .1, λ i j a b d. e .2 i j a b d ∙ sym (own .2 i j a b d) ∙ other .2 i j a b d)

@@ -2,11 +2,13 @@
 use mathlib.Core.Path.{_≡_, refl, sym, _∙_, ap, ap₂, subst}
 use mathlib.Core.List.{List, _++_}
 use Prim.Native.Nat.{ℕ, _+_, _-_, _*_, _≤_}
+use native.Mathlib.Omega.{arith}
 use lib.ListN.{length, take, drop}
+use lib.Seq.{take-all}
 use lib.Ieee.{Float}
 use Rattle.lists.specs.Fold.{fold}
 use Rattle.lists.proofs.Filling.{length-build}
-use Rattle.lists.proofs.Parts.{length-part, length-put, part-back, part-put, on-put, front-is, copied}
+use Rattle.lists.proofs.Parts.{length-part, length-put, part-lent, put-back, part-put, on-put, front-is}
 use Rattle.elimination.specs.Rows.{rowOf, onRow, swapped, dividedRow, dividedFrom, eliminatedRow, eliminated, clearedBy, eliminatedFrom, clearedFrom}
 
 pub length-from : (c k : ℕ) (r : List Float) → length (dividedFrom c k r) ≡ length r
@@ -35,18 +37,19 @@ cleared-once n w k p l h m =
     (subst (λ (z : ℕ). k * w + w ≤ z) (sym (length-put (p * w) w (rowOf w k l) l m (length-part (k * w) w l h))) h)
     (length-part (p * w) w l m)
 
--- s is the copy of row p, q and y its first w numbers divided, t the copy with q, l₂ the rows with y in row k
-module _ (c n w k p : ℕ) (l d s l₁ q y l₃ : List Float) where
-  pub cleared-back : k * w + w ≤ length l → p * w + w ≤ length l → s ≡ rowOf w p l ++ d → l₁ ≡ onRow w p (λ _. rowOf w k l) l
-      → q ≡ dividedFrom c k (take w s) → y ≡ dividedFrom c k (take w s)
-      → l₃ ≡ fold n (eliminatedFrom c (take w (q ++ drop w s)) w k) (take (k * w) l₁ ++ (y ++ drop (k * w + w - k * w) (drop (k * w) l₁)))
+-- q is the pivot's row divided, at the front of z; l₁ the rows with row k in its place; y is q, lent row k to be put there
+module _ (c n w k p : ℕ) (l z q l₁ y l₃ : List Float) where
+  pub cleared-back : k * w + w ≤ length l → p * w + w ≤ length l → q ≡ dividedFrom c k (take (p * w + w - p * w) (drop (p * w) l)) → l₁ ≡ onRow w p (λ _. rowOf w k l) l
+      → y ≡ take (length (take (k * w + w - k * w) (drop (k * w) l₁))) (take w (q ++ drop w z))
+      → l₃ ≡ fold n (eliminatedFrom c (take w (q ++ drop w z)) w k) (take (k * w) l₁ ++ (y ++ drop (k * w + w - k * w) (drop (k * w) l₁)))
       → l₃ ≡ clearedFrom c n w k p l
   unfolding clearedFrom
-  cleared-back h m o e a b f =
-      let r : take w s ≡ rowOf w p l = copied (p * w) w l d s m o in
-      let g : q ≡ dividedFrom c k (rowOf w p l) = a ∙ ap (dividedFrom c k) r in
-      let i : length (rowOf w p l) ≡ w = length-part (p * w) w l m in
-      let t : take w (q ++ drop w s) ≡ dividedFrom c k (rowOf w p l) = front-is w q s (dividedFrom c k (rowOf w p l)) g (length-from c k (rowOf w p l) ∙ i) in
+  cleared-back h m a e b f =
+      let d = dividedFrom c k (rowOf w p l) in
+      let i : length d ≡ w = length-from c k (rowOf w p l) ∙ length-part (p * w) w l m in
+      let t : take w (q ++ drop w z) ≡ d = front-is w q z d (a ∙ ap (dividedFrom c k) (part-lent (p * w) (p * w + w) w l refl)) i in
+      let j : length l₁ ≡ length l = ap length e ∙ length-put (p * w) w (rowOf w k l) l m (length-part (k * w) w l h) in
+      let u : take w (take w (q ++ drop w z)) ≡ d = ap (take w) t ∙ take-all w d (omega (arith, i)) in
       f
-      ∙ ap₂ (λ (x z : List Float). fold n (eliminatedFrom c x w k) z) t (part-back (k * w) (k * w + w) w (λ _. dividedFrom c k (rowOf w p l)) l₁ y refl (b ∙ ap (dividedFrom c k) r))
-      ∙ ap (λ (z : List Float). fold n (eliminatedFrom c (dividedFrom c k (rowOf w p l)) w k) (onRow w k (λ _. dividedFrom c k (rowOf w p l)) z)) e
+      ∙ ap₂ (λ (x r : List Float). fold n (eliminatedFrom c x w k) r) t (put-back (k * w) (k * w + w) w d _ l₁ y refl (omega arith) u b)
+      ∙ ap (λ (r : List Float). fold n (eliminatedFrom c d w k) (onRow w k (λ _. d) r)) e

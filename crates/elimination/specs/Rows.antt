@@ -1,5 +1,5 @@
 -- The row operations of Gauss-Jordan elimination (Golub and Van Loan, sections 3.2 and 3.4). A matrix of n rows of w numbers lies by rows in a list.
-use Prim.Native.Nat.{ℕ, _+_, _*_, _-_, _/_, _≤_, _<_}
+use Prim.Native.Nat.{ℕ, _+_, _*_, _-_, _≤_, _<_}
 use mathlib.Core.Path.{_≡_}
 use mathlib.Core.Bool.{cond}
 use mathlib.Core.List.{List}
@@ -60,7 +60,3 @@ dividedFrom c k r = build (length r) (λ j. cond (ltb j c) (at r j) (at r j /ᶠ
 unfoldable pub clearedFrom : ℕ → ℕ → ℕ → ℕ → ℕ → List Float → List Float
 clearedFrom c n w k p l =
     fold n (eliminatedFrom c (dividedFrom c k (rowOf w p l)) w k) (onRow w k (λ _. dividedFrom c k (rowOf w p l)) (onRow w p (λ _. rowOf w k l) l))
-
--- the first column that the code takes anything from, where it clears column k: with rows of 32 the first of k's four
-unfoldable pub firstColumn : ℕ → ℕ → ℕ
-firstColumn w k = cond (eqb w 32) (k / 4 * 4) 0

@@ -10,7 +10,7 @@ ghost use lib.ListN.{length, drop};
 ghost use Rattle.lists.specs.Fold.{fold};
 ghost use Rattle.lists.specs.Part.{part};
 ghost use Rattle.numbers.specs.Number.{_/ᶠ_};
-ghost use Rattle.elimination.specs.Rows.{rowOf, onRow, dividedFrom, lessRow, eliminatedFrom, clearedFrom, firstColumn};
+ghost use Rattle.elimination.specs.Rows.{rowOf, onRow, clearedBy, Agree, dividedFrom, lessRow, eliminatedFrom, clearedFrom};
 
 // Copies w numbers from `start` on to the front of `out`.
 pub fn copy_row(from: &[f64], start: usize, w: usize, out: &mut [f64])
@@ -22,11 +22,14 @@ pub fn copy_row(from: &[f64], start: usize, w: usize, out: &mut [f64])
     }
 }
 
-// Copies row k over row p.
+// Copies row k over row p, unless they are one row.
 fn move_row(work: &mut [f64], w: usize, k: usize, p: usize)
     requires { ⌜ (w ≤ 32) × (k * w + w ≤ length (now work)) × (p * w + w ≤ length (now work)) ⌝ }
     ensures { λ _. ⌜ now (work .exit) ≡ onRow w p (λ _. rowOf w k (now (work .entry))) (now (work .entry)) ⌝ }
 {
+    if p == k {
+        return;
+    }
     let mut row = [0.0f64; 32];
     copy_row(work, k * w, w, &mut row);
     let start = p * w;
@@ -44,17 +47,15 @@ fn divided(x: f64, d: f64, c: usize, j: usize) -> f64
     x / d
 }
 
-// Divides the row by its entry k, read before, from column c on, and writes `out` over with it.
-fn divide_row(row: &mut [f64], k: usize, c: usize, out: &mut [f64])
+// Writes `out` over with the row, divided by its entry k from column c on.
+fn divide_row(row: &[f64], k: usize, c: usize, out: &mut [f64])
     requires { ⌜ (k < length (now row)) × (length (now out) ≡ length (now row)) ⌝ }
-    ensures { λ _. ⌜ (now (row .exit) ≡ dividedFrom c k (now (row .entry))) × (now (out .exit) ≡ dividedFrom c k (now (row .entry))) ⌝ }
+    ensures { λ _. ⌜ now (out .exit) ≡ dividedFrom c k (now (row .entry)) ⌝ }
 {
     let d = row[k];
     let width = row.len();
     for j in 0..width {
-        let quotient = divided(row[j], d, c, j);
-        row[j] = quotient;
-        out[j] = quotient;
+        out[j] = divided(row[j], d, c, j);
     }
 }
 
@@ -94,17 +95,19 @@ fn eliminate_rows(work: &mut [f64], pivot: &[f64], n: usize, w: usize, k: usize,
     }
 }
 
-// The pivot's row is copied, row k put in its place, and the copy, divided by the pivot, is put in row k and taken from the others, from column c on.
+// The pivot's row, divided by the pivot, goes to a local array, row k to its place, and the array to row k; it is taken from the other rows, from column c on.
 fn clear_by(work: &mut [f64], n: usize, w: usize, k: usize, p: usize, c: usize)
     requires { ⌜ (k < n) × (p < n) × (k < w) × (w ≤ 32) × (n * w ≤ length (now work)) × (c ≤ k) ⌝ }
     ensures { λ _. ⌜ now (work .exit) ≡ clearedFrom c n w k p (now (work .entry)) ⌝ }
 {
     let mut pivot = [0.0f64; 32];
-    copy_row(work, p * w, w, &mut pivot);
+    let from = p * w;
+    let until = from + w;
+    divide_row(&work[from..until], k, c, &mut pivot[..w]);
     move_row(work, w, k, p);
     let start = k * w;
     let end = start + w;
-    divide_row(&mut pivot[..w], k, c, &mut work[start..end]);
+    put_row(&mut work[start..end], &pivot[..w]);
     eliminate_rows(work, &pivot[..w], n, w, k, c);
 }
 
@@ -128,10 +131,10 @@ fn clear_wide(work: &mut [f64], n: usize, k: usize, p: usize)
     clear_by(work, n, 32, k, p, 12);
 }
 
-// Clears column k of n rows of w numbers by the pivot in row p: of rows of 32 from the first column of its four on, of others in full.
+// Clears column k of n rows of w numbers by the pivot in row p. The columns before k are left free.
 pub fn clear_column(work: &mut [f64], n: usize, w: usize, k: usize, p: usize)
     requires { ⌜ (k < n) × (p < n) × (n ≤ 16) × (k < w) × (w ≤ 32) × (n * w ≤ length (now work)) ⌝ }
-    ensures { λ _. ⌜ now (work .exit) ≡ clearedFrom (firstColumn w k) n w k p (now (work .entry)) ⌝ }
+    ensures { λ _. ⌜ Agree k w (length (now (work .entry))) (now (work .exit)) (clearedBy n w k p (now (work .entry))) ⌝ }
 {
     if w == 32 {
         clear_wide(work, n, k, p);

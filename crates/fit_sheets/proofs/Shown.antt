@@ -1,5 +1,5 @@
 -- The words of a fit's sheet, written in two parts. Assumes nothing.
-use Prim.Native.Nat.{ℕ, _+_, _-_, _≤_}
+use Prim.Native.Nat.{ℕ, _-_, _≤_}
 use mathlib.Core.Path.{_≡_, sym, ap}
 use mathlib.Core.Bool.{Bool}
 use mathlib.Core.List.{List, _++_}

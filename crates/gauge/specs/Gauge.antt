@@ -1,6 +1,6 @@
 -- A gauge transform S of a gate set (document 01, kind 6; the Rust's `gauge_transform`): the state r becomes S r, each effect E (a row) E S⁻¹, each gate G S G S⁻¹, so that all
 -- probabilities stay what they are.
-use Prim.Native.Nat.{ℕ, _+_, _*_}
+use Prim.Native.Nat.{ℕ}
 use mathlib.Core.Bool.{cond, not}
 use mathlib.Core.List.{List, [], _++_}
 use lib.IntN.{pos}

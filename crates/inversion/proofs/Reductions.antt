@@ -17,8 +17,8 @@ use Rattle.lists.proofs.Parts.{row-fits, row-in}
 use Rattle.numbers.specs.Number.{zeroF, _*ᶠ_, finite, abs, precedes}
 use Rattle.numbers.specs.Slice.{at}
 use Rattle.numbers.proofs.Leaves.{clash}
-use Rattle.elimination.specs.Rows.{Agree, clearedFrom, firstColumn}
-use Rattle.elimination.proofs.Agreeing.{first-before, cleared-agree}
+use Rattle.elimination.specs.Rows.{Agree, clearedBy}
+use Rattle.elimination.proofs.Agreeing.{cleared-alike}
 use Rattle.pivots.specs.Pivots.{scaleOf, magnitude, sizeAt, largerRow, pivotRow}
 use Rattle.inversion.specs.Inversion.{besideIdentity, Reduction, rows, singular, columnReduced, reductionOf, isReduced, rightOf, rightHalves, invertible, inverseOf, Stands}
 use Rattle.pivots.proofs.Sizes.{same-limit}
@@ -68,12 +68,13 @@ module _ (n : ℕ) (limit : Float) (k : ℕ) (l : List Float) (going : Bool) whe
     ends-here t (rows m) h = rw (same-test m (h .1), t) refl
     ends-here t singular h = refl
 
-    pub goes-on : (u : List Float) → Ieee.le x limit ≡ false → u ≡ clearedFrom (firstColumn (2 * n) k) n (2 * n) k p l
+    pub goes-on : (u : List Float) → Ieee.le x limit ≡ false → Agree k (2 * n) (length l) u (clearedBy n (2 * n) k p l)
         → (s : Reduction) → Stands n k going l s → Stands n (k + 1) true u (columnReduced n limit k s)
     unfolding columnReduced
     goes-on u t c (rows m) h =
-        let a = cleared-agree k (2 * n) (n * (2 * n)) k (le-refl k) (omega arith) (firstColumn (2 * n) k) n p l m (first-before (2 * n) k) kn pn (le-refl (n * (2 * n))) (h .1) in
-        rw (same-test m (h .1), t, ← row-of-pivot m (h .1), c) (refl, (a .0, a .1, λ i j b d f. a .2 i j (omega arith) d f))
+        let d = subst (λ (z : ℕ). Agree k (2 * n) z u (clearedBy n (2 * n) k p l)) (h .1 .0) c in
+        let a = cleared-alike n (2 * n) k p (n * (2 * n)) u l m kn pn (omega arith) (le-refl (n * (2 * n))) (h .1) d in
+        rw (same-test m (h .1), t, ← row-of-pivot m (h .1)) (refl, (a .0, a .1, λ i j b d f. a .2 i j (omega arith) d f))
     goes-on u t c singular h = clash (sym h ∙ g)
 
 -- the reduction before column k, column after column

@@ -4,7 +4,7 @@ use mathlib.Core.List.{List, _++_}
 use Prim.Native.Nat.{ℕ, suc, _+_, _-_, _*_, _/_, _%_, _≤_, _<_}
 use native.Mathlib.Nat.{le-refl, suc-mul, mul-le-mul-right, mul-add-div-right, mul-add-mod-self-right, div-eq-of-lt, mod-eq-of-lt, add-zero}
 use native.Mathlib.Omega.{arith}
-use lib.ListN.{length, take, drop, length-take, length-drop, length-append}
+use lib.ListN.{length, take, drop, length-take, length-drop, length-append, take-append-drop}
 use lib.Seq.{take-at, drop-at, length-take-le}
 use Rattle.lists.specs.Build.{over}
 use Rattle.lists.specs.Part.{part, onPart}
@@ -31,6 +31,10 @@ module _ {A : Type 0} where
   pub put-back : (a e w : ℕ) (r s l ys : List A) → e ≡ a + w → e ≤ length l → take w s ≡ r → ys ≡ take (length (take (e - a) (drop a l))) s
       → take a l ++ (ys ++ drop (e - a) (drop a l)) ≡ onPart a w (λ _. r) l
   put-back a e w r s l ys h k q y = part-back a e w (λ _. r) l ys h (y ∙ ap (λ (m : ℕ). take m s) (lent-long a e w l h k) ∙ q)
+
+  -- written over with itself
+  pub put-same : (a w : ℕ) (l : List A) → onPart a w (λ _. part a w l) l ≡ l
+  put-same a w l = ap (λ (t : List A). take a l ++ t) (take-append-drop w (drop a l)) ∙ take-append-drop a l
 
   -- it keeps the length
   pub length-put : (a w : ℕ) (r l : List A) → a + w ≤ length l → length r ≡ w → length (onPart a w (λ _. r) l) ≡ length l

@@ -1,6 +1,6 @@
 -- Linear inversion (Nielsen and Chuang, section 8.4.2): the density matrix from the expectations of all Pauli strings of n qubits,
 -- in float operations as the Rust's `linear_inversion` has them.
-use Prim.Native.Nat.{ℕ, zero, suc, _+_, _*_, _/_, _%_, _^_}
+use Prim.Native.Nat.{ℕ, zero, suc, _*_, _/_, _%_, _^_}
 use mathlib.Core.Bool.{cond, not}
 use mathlib.Core.List.{List, []}
 use lib.Dec.{eqb}

@@ -22,13 +22,17 @@ same-length : tie.Need-same-length
 same-length c = c .before .out .given
 
 returns : tie.Need-returns
-returns c = in-case readingCode readingWords (now (c .before .before .before .before .before .before .before .before .args .out)) (c .before .before .before .before .before .a .given .1) (c .before .before .put-header .ensures .0) (c .before .before .put-header .ensures .1)
+returns c =
+    let put-header = c .before .before .put-header .ensures in
+    in-case readingCode readingWords (now (c .before .before .before .before .before .before .before .before .args .out)) (c .before .before .before .before .before .a .given .1) (put-header .0) (put-header .1)
 
 same-length-2 : tie.Need-same-length-2
 same-length-2 c = c .before .out2 .given
 
 returns-2 : tie.Need-returns-2
-returns-2 c = in-case readingCode readingWords (now (c .before .before .before .before .before .before .before .before .args .out)) (c .before .before .before .before .before .a2 .given .1) (c .before .before .put-refusal .ensures .0) (c .before .before .put-refusal .ensures .1)
+returns-2 c =
+    let put-refusal = c .before .before .put-refusal .ensures in
+    in-case readingCode readingWords (now (c .before .before .before .before .before .before .before .before .args .out)) (c .before .before .before .before .before .a2 .given .1) (put-refusal .0) (put-refusal .1)
 
 pub put-reading-spec : {M : Type 1} → statement M
 put-reading-spec =

@@ -20,7 +20,9 @@ same-length : tie.Need-same-length
 same-length c = c .before .out .given
 
 returns : tie.Need-returns
-returns c = (c .before .before .before .before .before .before .code .ensures, c .before .before .put .ensures ∙ rw (c .before .before .before .before .before .before .code .ensures, c .before .before .before .before .value-a .ensures, c .before .before .before .value-b .ensures))
+returns c =
+    let code = c .before .before .before .before .before .before .code .ensures in
+    (code, c .before .before .put .ensures ∙ rw (code, c .before .before .before .before .value-a .ensures, c .before .before .before .value-b .ensures))
 
 pub put-refusal-spec : {M : Type 1} → statement M
 put-refusal-spec =

@@ -20,7 +20,9 @@ same-length : tie.Need-same-length
 same-length c = c .before .out .given
 
 returns : tie.Need-returns
-returns c = (c .before .before .put-header .ensures .0, c .before .before .put-header .ensures .1 ∙ rw (c .before .before .before .before .before .before .bit-of .ensures, c .before .before .before .before .before .bit-of2 .ensures, c .before .before .before .before .bit-of3 .ensures))
+returns c =
+    let put-header = c .before .before .put-header .ensures in
+    (put-header .0, put-header .1 ∙ rw (c .before .before .before .before .before .before .bit-of .ensures, c .before .before .before .before .before .bit-of2 .ensures, c .before .before .before .before .bit-of3 .ensures))
 
 pub put-tests-spec : {M : Type 1} → statement M
 put-tests-spec =

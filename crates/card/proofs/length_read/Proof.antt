@@ -18,7 +18,9 @@ unfolding lengthRead
 returns c = yes _ (sym (c .before .qubits-break .ensures) ∙ c .if1 .taken)
 
 wanted-requires : tie.Need-wanted-requires
-wanted-requires c κs = limited (c .before .before .args .h) (c .before .before .pre) (sym (c .before .qubits-break .ensures) ∙ c .if1 .left)
+wanted-requires c κs =
+    let o = c .before .before in
+    limited (o .args .h) (o .pre) (sym (c .before .qubits-break .ensures) ∙ c .if1 .left)
 
 returns-2 : tie.Need-returns-2
 unfolding lengthRead

@@ -12,8 +12,9 @@ qubits-break-requires c κs = search needs
 
 returns : tie.Need-returns
 returns c =
-    let e = sym (c .before .before .before .pre .0) in
-    short (c .before .before .before .args .card .now) (ap word0Breaks e ∙ c .before .before .before .pre .1) (ap qubitsBreak e ∙ sym (c .before .qubits-break .ensures) ∙ c .if1 .taken)
+    let o = c .before .before .before in
+    let e = sym (o .pre .0) in
+    short (o .args .card .now) (ap word0Breaks e ∙ o .pre .1) (ap qubitsBreak e ∙ sym (c .before .qubits-break .ensures) ∙ c .if1 .taken)
 
 kind-fault-requires : tie.Need-kind-fault-requires
 kind-fault-requires c κs =
@@ -23,7 +24,8 @@ kind-fault-requires c κs =
 returns-2 : tie.Need-returns-2
 returns-2 c =
     let start = c .before .before .before .before in
-    let e = sym (start .pre .0) in cc (long (start .args .card .now) (ap word0Breaks e ∙ start .pre .1) (ap qubitsBreak e ∙ sym (c .before .before .qubits-break .ensures) ∙ c .before .if1 .left))
+    let e = sym (start .pre .0) in
+    cc (long (start .args .card .now) (ap word0Breaks e ∙ start .pre .1) (ap qubitsBreak e ∙ sym (c .before .before .qubits-break .ensures) ∙ c .before .if1 .left))
 
 pub words-fault-spec : {M : Type 1} → statement M
 words-fault-spec = tie.close (tie.spec qubits-break-requires returns kind-fault-requires returns-2)

@@ -32,7 +32,9 @@ add-q : tie.Need-add-q Inv-loop μ-loop
 add-q c = search needs
 
 add-q-2 : tie.Need-add-q-2 Inv-loop μ-loop
-add-q-2 c = let t = c .before .before .before in omega (arith, few-words (t .loop .i) (t .before .before .args .e) (t .before .before .args .n) (search needs) (search needs) (search needs))
+add-q-2 c =
+    let t = c .before .before .before in
+    omega (arith, few-words (t .loop .i) (t .before .before .args .e) (t .before .before .args .n) (search needs) (search needs) (search needs))
 
 add-i : tie.Need-add-i Inv-loop μ-loop
 add-i c = search needs

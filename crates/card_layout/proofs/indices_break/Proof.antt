@@ -33,8 +33,9 @@ nonzero-requires-2 c κs = search needs
 
 returns-2 : tie.Need-returns-2
 returns-2 c =
+    let used-in = c .before .before .used-in in
     let start = c .before .before .before in
-    c .nonzero2 .ensures ∙ indices-some (start .args .len) (start .args .j) (start .args .w) (c .before .before .used-in .result) _ (c .before .before .used-in .ensures) (c .before .if1 .left) refl
+    c .nonzero2 .ensures ∙ indices-some (start .args .len) (start .args .j) (start .args .w) (used-in .result) _ (used-in .ensures) (c .before .if1 .left) refl
 
 pub indices-break-spec : {M : Type 1} → statement M
 indices-break-spec =

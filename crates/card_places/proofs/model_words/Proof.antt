@@ -23,7 +23,9 @@ add-result-2 : tie.Need-add-result-2
 add-result-2 c = search needs
 
 returns : tie.Need-returns
-returns c = bounded (cc) (model-most (c .before .before .before .args .h) (c .before .before .before .pre))
+returns c =
+    let o = c .before .before .before in
+    bounded (cc) (model-most (o .args .h) (o .pre))
 
 pub model-words-spec : {M : Type 1} → statement M
 model-words-spec =

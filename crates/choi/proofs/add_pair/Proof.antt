@@ -20,7 +20,9 @@ loop-holds : tie.Need-loop-holds Inv-loop μ-loop
 loop-holds c = (search needs, refl, fold-none _ _)
 
 add-row-requires : tie.Need-add-row-requires Inv-loop μ-loop
-add-row-requires c κs = (c .before .before .before .before .pre .0, search needs, c .before .before .loop .inv .1 ∙ c .before .before .before .before .pre .1)
+add-row-requires c κs =
+    let o = c .before .before .before .before in
+    (o .pre .0, search needs, c .before .before .loop .inv .1 ∙ o .pre .1)
 
 add-j : tie.Need-add-j Inv-loop μ-loop
 add-j c = search needs
@@ -29,7 +31,9 @@ loop-less : tie.Need-loop-less Inv-loop μ-loop
 loop-less c = search needs
 
 loop-again : tie.Need-loop-again Inv-loop μ-loop
-loop-again c = (search needs, search needs, fold-more _ (c .before .before .before .before .before .loop .j) _ _ _ (c .before .before .before .before .before .loop .inv .2) (c .before .before .add-row .ensures))
+loop-again c =
+    let l = c .before .before .before .before .before .loop in
+    (search needs, search needs, fold-more _ (l .j) _ _ _ (l .inv .2) (c .before .before .add-row .ensures))
 
 same-length : tie.Need-same-length Inv-loop μ-loop
 same-length c = search needs

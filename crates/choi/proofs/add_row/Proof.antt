@@ -27,7 +27,9 @@ loop-holds : tie.Need-loop-holds Inv-loop μ-loop
 loop-holds c = (search needs, refl, fold-none _ _)
 
 add-term-requires : tie.Need-add-term-requires Inv-loop μ-loop
-add-term-requires c κs = (c .before .before .before .before .before .before .pre .0, omega (arith, c .before .before .before .before .before .before .pre .0 .side, c .before .before .before .before .filled-of .ensures .2), search needs, search needs, search needs, c .before .before .loop .inv .1 ∙ c .before .before .before .before .before .before .pre .2)
+add-term-requires c κs =
+    let o = c .before .before .before .before .before .before in
+    (o .pre .0, omega (arith, o .pre .0 .side, c .before .before .before .before .filled-of .ensures .2), search needs, search needs, search needs, c .before .before .loop .inv .1 ∙ o .pre .2)
 
 add-r : tie.Need-add-r Inv-loop μ-loop
 add-r c = search needs
@@ -36,13 +38,17 @@ loop-less : tie.Need-loop-less Inv-loop μ-loop
 loop-less c = search needs
 
 loop-again : tie.Need-loop-again Inv-loop μ-loop
-loop-again c = (search needs, search needs, fold-more _ (c .before .before .before .before .before .loop .r) _ _ _ (c .before .before .before .before .before .loop .inv .2) (c .before .before .add-term .ensures))
+loop-again c =
+    let l = c .before .before .before .before .before .loop in
+    (search needs, search needs, fold-more _ (l .r) _ _ _ (l .inv .2) (c .before .before .add-term .ensures))
 
 same-length : tie.Need-same-length Inv-loop μ-loop
 same-length c = search needs
 
 returns : tie.Need-returns Inv-loop μ-loop
-returns c = row-is _ _ _ _ _ _ _ _ _ (c .before .loop .r) _ (c .before .before .before .filled-of .ensures .0) (c .before .before .before .filled-of .ensures .1) (c .before .before .share-of .ensures) (omega (arith, c .before .before .before .before .before .pre .0 .side)) (c .before .loop .inv .2)
+returns c =
+    let filled-of = c .before .before .before .filled-of .ensures in
+    row-is _ _ _ _ _ _ _ _ _ (c .before .loop .r) _ (filled-of .0) (filled-of .1) (c .before .before .share-of .ensures) (omega (arith, c .before .before .before .before .before .pre .0 .side)) (c .before .loop .inv .2)
 
 pub add-row-spec : {M : Type 1} → statement M
 add-row-spec =

@@ -22,19 +22,33 @@ loop-holds : tie.Need-loop-holds Inv-loop μ-loop
 loop-holds c = (search needs, refl, fold-none _ _)
 
 mul-add-pair : tie.Need-mul-add-pair Inv-loop μ-loop
-mul-add-pair c = omega (arith, values-fit (c .before .loop .a) (c .before .before .before .before .args .b) (c .before .before .before .before .args .p) _ (search needs) (search needs) refl, square-small _ _ (c .before .before .before .before .pre .0 .few) (c .before .before .before .before .pre .0 .strings))
+mul-add-pair c =
+    let o = c .before .before .before .before in
+    let a = o .args in
+    omega (arith, values-fit (c .before .loop .a) (a .b) (a .p) _ (search needs) (search needs) refl, square-small _ _ (o .pre .0 .few) (o .pre .0 .strings))
 
 add-add-pair : tie.Need-add-add-pair Inv-loop μ-loop
-add-add-pair c = omega (arith, values-fit (c .before .loop .a) (c .before .before .before .before .args .b) (c .before .before .before .before .args .p) _ (search needs) (search needs) refl, square-small _ _ (c .before .before .before .before .pre .0 .few) (c .before .before .before .before .pre .0 .strings))
+add-add-pair c =
+    let o = c .before .before .before .before in
+    let a = o .args in
+    omega (arith, values-fit (c .before .loop .a) (a .b) (a .p) _ (search needs) (search needs) refl, square-small _ _ (o .pre .0 .few) (o .pre .0 .strings))
 
 mul-add-pair-2 : tie.Need-mul-add-pair-2 Inv-loop μ-loop
-mul-add-pair-2 c = omega (arith, values-fit (c .before .loop .a) (c .before .before .before .before .args .b) (c .before .before .before .before .args .p) _ (search needs) (search needs) refl, square-small _ _ (c .before .before .before .before .pre .0 .few) (c .before .before .before .before .pre .0 .strings))
+mul-add-pair-2 c =
+    let o = c .before .before .before .before in
+    let a = o .args in
+    omega (arith, values-fit (c .before .loop .a) (a .b) (a .p) _ (search needs) (search needs) refl, square-small _ _ (o .pre .0 .few) (o .pre .0 .strings))
 
 shared-slice-read-add-pair : tie.Need-shared-slice-read-add-pair Inv-loop μ-loop
-shared-slice-read-add-pair c = values-fit (c .before .before .loop .a) (c .before .before .before .before .before .args .b) (c .before .before .before .before .before .args .p) _ (search needs) (search needs) (c .before .before .before .before .before .pre .2)
+shared-slice-read-add-pair c =
+    let o = c .before .before .before .before .before in
+    let a = o .args in
+    values-fit (c .before .before .loop .a) (a .b) (a .p) _ (search needs) (search needs) (o .pre .2)
 
 add-pair-requires : tie.Need-add-pair-requires Inv-loop μ-loop
-add-pair-requires c κs = (c .before .before .before .before .before .before .pre .0, c .before .before .before .loop .inv .1 ∙ c .before .before .before .before .before .before .pre .3)
+add-pair-requires c κs =
+    let o = c .before .before .before .before .before .before in
+    (o .pre .0, c .before .before .before .loop .inv .1 ∙ o .pre .3)
 
 add-a : tie.Need-add-a Inv-loop μ-loop
 add-a c = search needs
@@ -43,7 +57,9 @@ loop-less : tie.Need-loop-less Inv-loop μ-loop
 loop-less c = search needs
 
 loop-again : tie.Need-loop-again Inv-loop μ-loop
-loop-again c = (search needs, search needs, fold-more _ (c .before .before .before .before .before .before .loop .a) _ _ _ (c .before .before .before .before .before .before .loop .inv .2) (c .before .before .add-pair .ensures))
+loop-again c =
+    let l = c .before .before .before .before .before .before .loop in
+    (search needs, search needs, fold-more _ (l .a) _ _ _ (l .inv .2) (c .before .before .add-pair .ensures))
 
 same-length : tie.Need-same-length Inv-loop μ-loop
 same-length c = search needs

@@ -36,7 +36,13 @@ same-length : tie.Need-same-length
 same-length c = search needs
 
 returns : tie.Need-returns
-returns c = term-is (c .before .before .before .before .before .before .before .args .n) (c .before .before .before .before .before .before .before .args .a) (c .before .before .before .before .before .before .before .args .column) (c .before .before .before .before .before .before .before .args .power) (c .before .before .before .before .before .before .before .args .w) (c .before .before .before .before .before .before .before .args .j) (c .before .before .before .before .before .before .before .args .r) (now (c .before .before .before .before .before .before .before .args .out)) (c .before .before .before .before .before .filled-of .result .column) (c .before .before .before .before .before .filled-of .result .power) (c .before .before .before .place-of .result) (c .before .before .unit-of .result) (c .before .signed .result) (c .before .before .before .before .before .filled-of .ensures .0) (c .before .before .before .before .before .filled-of .ensures .1) (c .before .before .before .place-of .ensures .0) (c .before .before .unit-of .ensures) (c .before .signed .ensures)
+returns c =
+    let o = c .before .before .before .before .before .before .before in
+    let a = o .args in
+    let filled-of = c .before .before .before .before .before .filled-of in
+    let place-of = c .before .before .before .place-of in
+    let unit-of = c .before .before .unit-of in
+    term-is (a .n) (a .a) (a .column) (a .power) (a .w) (a .j) (a .r) (now (a .out)) (filled-of .result .column) (filled-of .result .power) (place-of .result) (unit-of .result) (c .before .signed .result) (filled-of .ensures .0) (filled-of .ensures .1) (place-of .ensures .0) (unit-of .ensures) (c .before .signed .ensures)
 
 pub add-term-spec : {M : Type 1} → statement M
 add-term-spec =

@@ -27,10 +27,16 @@ clear-requires c κs = search needs
 
 loop-holds : tie.Need-loop-holds Inv-loop μ-loop
 unfolding blank
-loop-holds c = (search needs, cleared-long (now (c .before .before .before .before .before .before .args .out)) _ _ (c .before .before .before .before .before .before .pre .2) (c .before .before .clear .ensures), cleared _ _ (now (c .before .before .before .before .before .before .args .out)) _ (c .before .before .before .before .before .before .pre .0 .strings) (c .before .before .before .before .before .before .pre .2) (c .before .before .clear .ensures) ∙ fold-none _ _)
+loop-holds c =
+    let o = c .before .before .before .before .before .before in
+    let a = o .args in
+    let clear = c .before .before .clear .ensures in
+    (search needs, cleared-long (now (a .out)) _ _ (o .pre .2) clear, cleared _ _ (now (a .out)) _ (o .pre .0 .strings) (o .pre .2) clear ∙ fold-none _ _)
 
 add-string-requires : tie.Need-add-string-requires Inv-loop μ-loop
-add-string-requires c κs = (c .before .before .before .before .before .before .before .before .before .pre .0, search needs, c .before .before .before .before .before .before .before .before .before .pre .1, c .before .before .loop .inv .1)
+add-string-requires c κs =
+    let o = c .before .before .before .before .before .before .before .before .before in
+    (o .pre .0, search needs, o .pre .1, c .before .before .loop .inv .1)
 
 add-b : tie.Need-add-b Inv-loop μ-loop
 add-b c = search needs
@@ -39,13 +45,17 @@ loop-less : tie.Need-loop-less Inv-loop μ-loop
 loop-less c = search needs
 
 loop-again : tie.Need-loop-again Inv-loop μ-loop
-loop-again c = (search needs, search needs, fold-more _ (c .before .before .before .before .before .loop .b) _ _ _ (c .before .before .before .before .before .loop .inv .2) (c .before .before .add-string .ensures))
+loop-again c =
+    let l = c .before .before .before .before .before .loop in
+    (search needs, search needs, fold-more _ (l .b) _ _ _ (l .inv .2) (c .before .before .add-string .ensures))
 
 same-length : tie.Need-same-length Inv-loop μ-loop
 same-length c = c .before .loop .inv .1 ∙ sym (c .before .before .before .before .before .before .before .before .pre .2)
 
 returns : tie.Need-returns Inv-loop μ-loop
-returns c = choi-is _ _ _ _ _ (c .before .loop .b) (c .before .before .before .before .before .before .before .before .pre .0) (c .before .before .before .before .before .before .before .before .pre .1) (c .before .before .before .before .before .before .before .before .pre .3) (c .before .before .before .before .before .before .before .shared-slice-known .given) (omega arith) (c .before .loop .inv .2)
+returns c =
+    let o = c .before .before .before .before .before .before .before .before in
+    choi-is _ _ _ _ _ (c .before .loop .b) (o .pre .0) (o .pre .1) (o .pre .3) (c .before .before .before .before .before .before .before .shared-slice-known .given) (omega arith) (c .before .loop .inv .2)
 
 pub choi-spec : {M : Type 1} → statement M
 choi-spec =

@@ -32,14 +32,21 @@ slice-aggregate-choi c = sym (length-take-le _ _ (room _ _ _ (c .before .before 
 
 choi-requires : tie.Need-choi-requires
 choi-requires c κs =
+    let o = c .before .before .before .before .before in
     let e = c .before .before .four-to .ensures .0 in
-    (record { some = c .before .before .before .before .before .pre .0; few = c .before .before .before .before .before .pre .1; side = c .before .two-to .ensures .0; strings = e }, c .before .before .before .before .before .pre .2 ∙ sym (ap₂ (λ (x y : ℕ). x * y) e e), length-take-le _ _ (room _ _ _ e (c .before .before .before .before .before .pre .3)), c .before .before .before .before .before .pre .4)
+    (record { some = o .pre .0; few = o .pre .1; side = c .before .two-to .ensures .0; strings = e }, o .pre .2 ∙ sym (ap₂ (λ (x y : ℕ). x * y) e e), length-take-le _ _ (room _ _ _ e (o .pre .3)), o .pre .4)
 
 slice-reshare-prefix-finite-or : tie.Need-slice-reshare-prefix-finite-or
-slice-reshare-prefix-finite-or c = front-long _ _ _ (choiOf (c .before .before .before .before .before .before .before .before .args .n) (now (c .before .before .before .before .before .before .before .before .args .values))) (c .before .before .choi .ensures) (length-choi _ _ _ (c .before .before .before .before .before .four-to .ensures .0))
+slice-reshare-prefix-finite-or c =
+    let o = c .before .before .before .before .before .before .before .before in
+    let a = o .args in
+    front-long _ _ _ (choiOf (a .n) (now (a .values))) (c .before .before .choi .ensures) (length-choi _ _ _ (c .before .before .before .before .before .four-to .ensures .0))
 
 slice-aggregate-finite-or : tie.Need-slice-aggregate-finite-or
-slice-aggregate-finite-or c = sym (length-take-le _ _ (front-long _ _ _ (choiOf (c .before .before .before .before .before .before .before .before .before .args .n) (now (c .before .before .before .before .before .before .before .before .before .args .values))) (c .before .before .before .choi .ensures) (length-choi _ _ _ (c .before .before .before .before .before .before .four-to .ensures .0))))
+slice-aggregate-finite-or c =
+    let o = c .before .before .before .before .before .before .before .before .before in
+    let a = o .args in
+    sym (length-take-le _ _ (front-long _ _ _ (choiOf (a .n) (now (a .values))) (c .before .before .before .choi .ensures) (length-choi _ _ _ (c .before .before .before .before .before .before .four-to .ensures .0))))
 
 finite-or-requires : tie.Need-finite-or-requires
 finite-or-requires c κs = search needs
@@ -48,7 +55,11 @@ same-length : tie.Need-same-length
 same-length c = search needs
 
 returns : tie.Need-returns
-returns c = (tested _ _ _ _ (front-is _ _ _ _ (c .before .before .before .before .choi .ensures) (length-choi _ _ _ (c .before .before .before .before .before .before .before .four-to .ensures .0))) (c .finite-or .ensures), front-over _ _ _ _ (c .before .before .before .before .choi .ensures) (length-choi _ _ _ (c .before .before .before .before .before .before .before .four-to .ensures .0)))
+returns c =
+    let four-to = c .before .before .before .before .before .before .before .four-to .ensures in
+    let choi = c .before .before .before .before .choi .ensures in
+    let choi-2 = length-choi _ _ _ (four-to .0) in
+    (tested _ _ _ _ (front-is _ _ _ _ choi choi-2) (c .finite-or .ensures), front-over _ _ _ _ choi choi-2)
 
 pub choi-tested-spec : {M : Type 1} → statement M
 choi-tested-spec =

@@ -44,10 +44,11 @@ same-length c = search needs
 
 returns-2 : tie.Need-returns-2
 returns-2 c =
+    let choi-tested = c .before .before .choi-tested .ensures in
     let s = c .before .before .before .before .before .before .before .before .before .before .before in
     let v = checked (s .args .n) (now (s .args .values)) _ _ _ (c .before .before .before .before .before .before .before .before .four-to .ensures .0) (c .before .before .before .before .before .before .before .square .ensures .0) (c .before .before .before .before .before .before .check-numbers .ensures) in
     let g = values-good (s .args .n) (now (s .args .values)) _ v (c .before .before .before .before .enum-told .given .1) in
-    (c .before .before .choi-tested .ensures .0 ∙ g .0, c .before .before .choi-tested .ensures .1 ∙ ap (λ (x : List Float). over x (now (s .args .out))) (g .1))
+    (choi-tested .0 ∙ g .0, choi-tested .1 ∙ ap (λ (x : List Float). over x (now (s .args .out))) (g .1))
 
 pub normalized-choi-spec : {M : Type 1} → statement M
 normalized-choi-spec =

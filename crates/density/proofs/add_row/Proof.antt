@@ -26,7 +26,9 @@ loop-holds : tie.Need-loop-holds Inv-loop μ-loop
 loop-holds c = (search needs, refl, fold-none _ _)
 
 read-requires : tie.Need-read-requires Inv-loop μ-loop
-read-requires c κs = let s = c .before .before .before .before .before in omega (arith, entry-fits (s .args .i) (c .before .before .loop .j) (s .args .n) (s .args .n) (s .pre .2) (c .before .loop-test .taken))
+read-requires c κs =
+    let s = c .before .before .before .before .before in
+    omega (arith, entry-fits (s .args .i) (c .before .before .loop .j) (s .args .n) (s .args .n) (s .pre .2) (c .before .loop-test .taken))
 
 get-requires : tie.Need-get-requires Inv-loop μ-loop
 get-requires c κs = search needs
@@ -38,7 +40,9 @@ plus-requires : tie.Need-plus-requires Inv-loop μ-loop
 plus-requires c κs = search needs
 
 write-requires : tie.Need-write-requires Inv-loop μ-loop
-write-requires c κs = let s = c .before .before .before .before .before .before .before .before .before .before in omega (arith, entry-fits (s .args .i) (c .before .before .before .before .before .before .before .loop .j) (s .args .n) (s .args .n) (s .pre .2) (c .before .before .before .before .before .before .loop-test .taken))
+write-requires c κs =
+    let s = c .before .before .before .before .before .before .before .before .before .before in
+    omega (arith, entry-fits (s .args .i) (c .before .before .before .before .before .before .before .loop .j) (s .args .n) (s .args .n) (s .pre .2) (c .before .before .before .before .before .before .loop-test .taken))
 
 add-j : tie.Need-add-j Inv-loop μ-loop
 add-j c = search needs
@@ -47,7 +51,10 @@ loop-less : tie.Need-loop-less Inv-loop μ-loop
 loop-less c = add-one-dec _ _ (c .before .before .before .before .before .before .before .before .before .loop-test .taken)
 
 loop-again : tie.Need-loop-again Inv-loop μ-loop
-loop-again c = let s = c .before .before .before .before .before .before .before .before .before .before .before .before .before .args in (add-one-le (c .before .before .before .before .before .before .before .before .before .loop-test .taken), c .before .out .given ∙ c .before .before .before .before .before .before .before .before .before .before .loop .inv .1, fold-more _ _ _ _ _ (c .before .before .before .before .before .before .before .before .before .before .loop .inv .2) (entry-added (s .n) (s .x) (entries (now (s .u))) (s .i) (c .before .before .before .before .before .before .before .before .before .before .loop .j) (entries (c .before .before .before .before .before .before .before .before .before .before .loop .out)) _ _ _ _ _ (c .before .before .before .before .before .before .before .read .ensures) (c .before .before .before .before .before .before .get .ensures) (c .before .before .before .before .times .ensures) (c .before .before .before .plus .ensures) (c .before .before .write .ensures)))
+loop-again c =
+    let l = c .before .before .before .before .before .before .before .before .before .before .loop in
+    let s = c .before .before .before .before .before .before .before .before .before .before .before .before .before .args in
+    (add-one-le (c .before .before .before .before .before .before .before .before .before .loop-test .taken), c .before .out .given ∙ l .inv .1, fold-more _ _ _ _ _ (l .inv .2) (entry-added (s .n) (s .x) (entries (now (s .u))) (s .i) (l .j) (entries (l .out)) _ _ _ _ _ (c .before .before .before .before .before .before .before .read .ensures) (c .before .before .before .before .before .before .get .ensures) (c .before .before .before .before .times .ensures) (c .before .before .before .plus .ensures) (c .before .before .write .ensures)))
 
 same-length : tie.Need-same-length Inv-loop μ-loop
 same-length c = c .before .loop .inv .1

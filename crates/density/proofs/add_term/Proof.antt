@@ -23,19 +23,25 @@ abbrev μ-loop : tie.MeasureT-loop
 μ-loop v n k p u out₀ i₀ out i = n - i
 
 conjugate-column-requires : tie.Need-conjugate-column-requires Inv-loop μ-loop
-conjugate-column-requires c κs = (c .before .before .before .before .pre .0, c .before .before .before .before .pre .1, c .before .before .before .before .pre .3)
+conjugate-column-requires c κs =
+    let o = c .before .before .before .before in
+    (o .pre .0, o .pre .1, o .pre .3)
 
 loop-holds : tie.Need-loop-holds Inv-loop μ-loop
 loop-holds c = (search needs, refl, fold-none _ _)
 
 read-requires : tie.Need-read-requires Inv-loop μ-loop
-read-requires c κs = let s = c .before .before .before .before .before .before .before .before .before in omega (arith, entry-fits (c .before .loop .i) (s .args .k) (s .args .n) (s .args .n) (c .loop-test .taken) (s .pre .3))
+read-requires c κs =
+    let s = c .before .before .before .before .before .before .before .before .before in
+    omega (arith, entry-fits (c .before .loop .i) (s .args .k) (s .args .n) (s .args .n) (c .loop-test .taken) (s .pre .3))
 
 scaled-requires : tie.Need-scaled-requires Inv-loop μ-loop
 scaled-requires c κs = search needs
 
 add-row-requires : tie.Need-add-row-requires Inv-loop μ-loop
-add-row-requires c κs = (c .before .before .before .before .before .before .before .u .given ∙ c .before .before .before .before .before .before .before .before .before .before .before .before .before .pre .1, c .before .before .before .before .before .loop .inv .1 ∙ c .before .before .before .before .before .before .before .before .before .before .before .before .before .pre .2, c .before .before .before .before .loop-test .taken)
+add-row-requires c κs =
+    let o = c .before .before .before .before .before .before .before .before .before .before .before .before .before in
+    (c .before .before .before .before .before .before .before .u .given ∙ o .pre .1, c .before .before .before .before .before .loop .inv .1 ∙ o .pre .2, c .before .before .before .before .loop-test .taken)
 
 add-i : tie.Need-add-i Inv-loop μ-loop
 add-i c = search needs
@@ -44,7 +50,10 @@ loop-less : tie.Need-loop-less Inv-loop μ-loop
 loop-less c = add-one-dec _ _ (c .before .before .before .before .before .before .before .loop-test .taken)
 
 loop-again : tie.Need-loop-again Inv-loop μ-loop
-loop-again c = let s = c .before .before .before .before .before .before .before .before .before .before .before .before .before .before .before .before .args in (add-one-le (c .before .before .before .before .before .before .before .loop-test .taken), c .before .out .given ∙ c .before .before .before .before .before .before .before .before .loop .inv .1, fold-more _ _ _ _ _ (c .before .before .before .before .before .before .before .before .loop .inv .2) (row-added (s .n) (entries (now (s .v))) (s .k) (s .p) _ (c .before .before .before .before .before .before .before .before .loop .i) _ _ (entries (c .before .before .before .before .before .before .before .before .loop .out)) _ (c .before .before .before .before .before .before .before .before .before .before .before .conjugate-column .ensures) (c .before .before .before .before .before .before .read .ensures) (c .before .before .before .before .before .scaled .ensures) (c .before .before .add-row .ensures)))
+loop-again c =
+    let l = c .before .before .before .before .before .before .before .before .loop in
+    let s = c .before .before .before .before .before .before .before .before .before .before .before .before .before .before .before .before .args in
+    (add-one-le (c .before .before .before .before .before .before .before .loop-test .taken), c .before .out .given ∙ l .inv .1, fold-more _ _ _ _ _ (l .inv .2) (row-added (s .n) (entries (now (s .v))) (s .k) (s .p) _ (l .i) _ _ (entries (l .out)) _ (c .before .before .before .before .before .before .before .before .before .before .before .conjugate-column .ensures) (c .before .before .before .before .before .before .read .ensures) (c .before .before .before .before .before .scaled .ensures) (c .before .before .add-row .ensures)))
 
 same-length : tie.Need-same-length Inv-loop μ-loop
 same-length c = c .before .before .before .u .given

@@ -25,7 +25,9 @@ loop-holds : tie.Need-loop-holds Inv-loop μ-loop
 loop-holds c = (search needs, refl, fill-none _ _)
 
 read-requires : tie.Need-read-requires Inv-loop μ-loop
-read-requires c κs = let s = c .before .before .before .before .before in omega (arith, entry-fits (c .before .before .loop .j) (s .args .k) (s .args .n) (s .args .n) (c .before .loop-test .taken) (s .pre .2))
+read-requires c κs =
+    let s = c .before .before .before .before .before in
+    omega (arith, entry-fits (c .before .before .loop .j) (s .args .k) (s .args .n) (s .args .n) (c .before .loop-test .taken) (s .pre .2))
 
 conjugate-requires : tie.Need-conjugate-requires Inv-loop μ-loop
 conjugate-requires c κs = search needs
@@ -40,13 +42,18 @@ loop-less : tie.Need-loop-less Inv-loop μ-loop
 loop-less c = add-one-dec _ _ (c .before .before .before .before .before .before .loop-test .taken)
 
 loop-again : tie.Need-loop-again Inv-loop μ-loop
-loop-again c = let s = c .before .before .before .before .before .before .before .before .before .before in (add-one-le (c .before .before .before .before .before .before .loop-test .taken), c .before .u .given ∙ c .before .before .before .before .before .before .before .loop .inv .1, column-more (s .args .n) (entries (now (s .args .v))) (s .args .k) _ _ _ _ _ _ (omega (arith, length-entries (s .args .n) (now (s .args .u)) (s .pre .1))) (c .before .before .before .before .before .before .before .loop .inv .2) (c .before .before .before .before .read .ensures) (c .before .before .before .conjugate .ensures) (c .before .before .put .ensures))
+loop-again c =
+    let l = c .before .before .before .before .before .before .before .loop .inv in
+    let s = c .before .before .before .before .before .before .before .before .before .before in
+    (add-one-le (c .before .before .before .before .before .before .loop-test .taken), c .before .u .given ∙ l .1, column-more (s .args .n) (entries (now (s .args .v))) (s .args .k) _ _ _ _ _ _ (omega (arith, length-entries (s .args .n) (now (s .args .u)) (s .pre .1))) (l .2) (c .before .before .before .before .read .ensures) (c .before .before .before .conjugate .ensures) (c .before .before .put .ensures))
 
 same-length : tie.Need-same-length Inv-loop μ-loop
 same-length c = c .before .loop .inv .1
 
 returns : tie.Need-returns Inv-loop μ-loop
-returns c = let s = c .before .before .before .before in column-all _ _ _ _ _ _ (omega arith) (length-entries _ _ (s .pre .1)) (c .before .loop .inv .2)
+returns c =
+    let s = c .before .before .before .before in
+    column-all _ _ _ _ _ _ (omega arith) (length-entries _ _ (s .pre .1)) (c .before .loop .inv .2)
 
 pub conjugate-column-spec : {M : Type 1} → statement M
 conjugate-column-spec =

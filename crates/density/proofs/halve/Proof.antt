@@ -25,7 +25,9 @@ loop-holds : tie.Need-loop-holds Inv-loop μ-loop
 loop-holds c = (search needs, refl, fold-none _ _)
 
 halve-row-requires : tie.Need-halve-row-requires Inv-loop μ-loop
-halve-row-requires c κs = (c .before .before .before .before .before .pre .0, c .before .before .loop .inv .1 ∙ c .before .before .before .before .before .pre .1, c .before .loop-test .taken)
+halve-row-requires c κs =
+    let o = c .before .before .before .before .before in
+    (o .pre .0, c .before .before .loop .inv .1 ∙ o .pre .1, c .before .loop-test .taken)
 
 add-i : tie.Need-add-i Inv-loop μ-loop
 add-i c = search needs
@@ -34,7 +36,9 @@ loop-less : tie.Need-loop-less Inv-loop μ-loop
 loop-less c = add-one-dec _ _ (c .before .before .before .before .loop-test .taken)
 
 loop-again : tie.Need-loop-again Inv-loop μ-loop
-loop-again c = (add-one-le (c .before .before .before .before .loop-test .taken), c .before .h .given ∙ c .before .before .before .before .before .loop .inv .1, fold-more _ _ _ _ _ (c .before .before .before .before .before .loop .inv .2) (c .before .before .halve-row .ensures))
+loop-again c =
+    let l = c .before .before .before .before .before .loop .inv in
+    (add-one-le (c .before .before .before .before .loop-test .taken), c .before .h .given ∙ l .1, fold-more _ _ _ _ _ (l .2) (c .before .before .halve-row .ensures))
 
 same-length : tie.Need-same-length Inv-loop μ-loop
 same-length c = c .before .loop .inv .1

@@ -29,7 +29,9 @@ halved-at-requires : tie.Need-halved-at-requires Inv-loop μ-loop
 halved-at-requires c κs = search needs
 
 write-requires : tie.Need-write-requires Inv-loop μ-loop
-write-requires c κs = let s = c .before .before .before .before .before .before in omega (arith, entry-fits (s .args .i) (c .before .before .before .loop .j) (s .args .n) (s .args .n) (s .pre .2) (c .before .before .loop-test .taken))
+write-requires c κs =
+    let s = c .before .before .before .before .before .before in
+    omega (arith, entry-fits (s .args .i) (c .before .before .before .loop .j) (s .args .n) (s .args .n) (s .pre .2) (c .before .before .loop-test .taken))
 
 add-j : tie.Need-add-j Inv-loop μ-loop
 add-j c = search needs
@@ -38,7 +40,10 @@ loop-less : tie.Need-loop-less Inv-loop μ-loop
 loop-less c = add-one-dec _ _ (c .before .before .before .before .before .loop-test .taken)
 
 loop-again : tie.Need-loop-again Inv-loop μ-loop
-loop-again c = let s = c .before .before .before .before .before .before .before .before .before .args in (add-one-le (c .before .before .before .before .before .loop-test .taken), c .before .h .given ∙ c .before .before .before .before .before .before .loop .inv .1, fold-more _ _ _ _ _ (c .before .before .before .before .before .before .loop .inv .2) (put-laid (s .n) (halvedAt (s .n) (entries (now (s .e)))) (s .i) (c .before .before .before .before .before .before .loop .j) (entries (c .before .before .before .before .before .before .loop .h)) _ _ (c .before .before .write .ensures) (c .before .before .before .halved-at .ensures)))
+loop-again c =
+    let l = c .before .before .before .before .before .before .loop in
+    let s = c .before .before .before .before .before .before .before .before .before .args in
+    (add-one-le (c .before .before .before .before .before .loop-test .taken), c .before .h .given ∙ l .inv .1, fold-more _ _ _ _ _ (l .inv .2) (put-laid (s .n) (halvedAt (s .n) (entries (now (s .e)))) (s .i) (l .j) (entries (l .h)) _ _ (c .before .before .write .ensures) (c .before .before .before .halved-at .ensures)))
 
 same-length : tie.Need-same-length Inv-loop μ-loop
 same-length c = c .before .loop .inv .1

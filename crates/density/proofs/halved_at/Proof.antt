@@ -10,7 +10,9 @@ read-requires : tie.Need-read-requires
 read-requires c κs = let s = c .before in omega (arith, entry-fits (s .args .i) (s .args .j) (s .args .n) (s .args .n) (s .pre .1) (s .pre .2))
 
 read-requires-2 : tie.Need-read-requires-2
-read-requires-2 c κs = let s = c .before .before in omega (arith, entry-fits (s .args .j) (s .args .i) (s .args .n) (s .args .n) (s .pre .2) (s .pre .1))
+read-requires-2 c κs =
+    let s = c .before .before in
+    omega (arith, entry-fits (s .args .j) (s .args .i) (s .args .n) (s .args .n) (s .pre .2) (s .pre .1))
 
 conjugate-requires : tie.Need-conjugate-requires
 conjugate-requires c κs = search needs

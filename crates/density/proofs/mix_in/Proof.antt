@@ -32,7 +32,10 @@ shared-slice-read-add-term : tie.Need-shared-slice-read-add-term Inv-loop μ-loo
 shared-slice-read-add-term c = search needs
 
 add-term-requires : tie.Need-add-term-requires Inv-loop μ-loop
-add-term-requires c κs = (c .before .before .before .before .before .before .before .before .before .before .before .before .before .pre .0, c .before .before .before .before .loop .inv .1 ∙ c .before .before .before .before .before .before .before .before .before .before .before .before .before .pre .2, c .before .before .before .before .loop .inv .2 ∙ c .before .before .before .before .before .before .out .given ∙ c .before .before .before .before .before .before .before .before .before .before .before .before .before .pre .3, c .before .before .before .loop-test .taken)
+add-term-requires c κs =
+    let o = c .before .before .before .before .before .before .before .before .before .before .before .before .before in
+    let l = c .before .before .before .before .loop .inv in
+    (o .pre .0, l .1 ∙ o .pre .2, l .2 ∙ c .before .before .before .before .before .before .out .given ∙ o .pre .3, c .before .before .before .loop-test .taken)
 
 add-k : tie.Need-add-k Inv-loop μ-loop
 add-k c = search needs
@@ -41,7 +44,9 @@ loop-less : tie.Need-loop-less Inv-loop μ-loop
 loop-less c = add-one-dec _ _ (c .before .before .before .before .before .before .before .before .loop-test .taken)
 
 loop-again : tie.Need-loop-again Inv-loop μ-loop
-loop-again c = (add-one-le (c .before .before .before .before .before .before .before .before .loop-test .taken), c .before .before .before .u .given ∙ c .before .before .before .before .before .before .before .before .before .loop .inv .1, c .before .out2 .given ∙ c .before .before .before .before .before .before .before .before .before .loop .inv .2, fold-more _ _ _ _ _ (c .before .before .before .before .before .before .before .before .before .loop .inv .3) (c .before .before .before .before .add-term .ensures))
+loop-again c =
+    let l = c .before .before .before .before .before .before .before .before .before .loop .inv in
+    (add-one-le (c .before .before .before .before .before .before .before .before .loop-test .taken), c .before .before .before .u .given ∙ l .1, c .before .out2 .given ∙ l .2, fold-more _ _ _ _ _ (l .3) (c .before .before .before .before .add-term .ensures))
 
 same-length : tie.Need-same-length Inv-loop μ-loop
 same-length c = c .before .loop .inv .1
@@ -50,7 +55,9 @@ same-length-2 : tie.Need-same-length-2 Inv-loop μ-loop
 same-length-2 c = c .before .loop .inv .2 ∙ c .before .before .before .out .given
 
 returns : tie.Need-returns Inv-loop μ-loop
-returns c = let s = c .before .before .before .before .before .before .before .before .before .before in mixed-whole (s .args .n) (entries (now (s .args .v))) (now (s .args .p)) _ _ _ (omega arith) (ap entries (c .before .before .before .before .clear .ensures) ∙ zeros (s .args .n * s .args .n) (now (s .args .out)) (s .pre .3)) (c .before .loop .inv .3)
+returns c =
+    let s = c .before .before .before .before .before .before .before .before .before .before in
+    mixed-whole (s .args .n) (entries (now (s .args .v))) (now (s .args .p)) _ _ _ (omega arith) (ap entries (c .before .before .before .before .clear .ensures) ∙ zeros (s .args .n * s .args .n) (now (s .args .out)) (s .pre .3)) (c .before .loop .inv .3)
 
 pub mix-in-spec : {M : Type 1} → statement M
 mix-in-spec =

@@ -21,10 +21,14 @@ matrix-room-requires-2 : tie.Need-matrix-room-requires-2
 matrix-room-requires-2 c κs = search needs
 
 array-borrow-prefix-v : tie.Need-array-borrow-prefix-v
-array-borrow-prefix-v c = let s = c .before .before .before .before .before in omega (arith, product-le (s .args .n) (s .args .n) 16 16 (s .pre .2) (s .pre .2))
+array-borrow-prefix-v c =
+    let s = c .before .before .before .before .before in
+    omega (arith, product-le (s .args .n) (s .args .n) 16 16 (s .pre .2) (s .pre .2))
 
 slice-aggregate-project-onto : tie.Need-slice-aggregate-project-onto
-slice-aggregate-project-onto c = let s = c .before .before .before .before .before .before in sym (length-take-le _ _ (omega (arith, product-le (s .args .n) (s .args .n) 16 16 (s .pre .2) (s .pre .2))))
+slice-aggregate-project-onto c =
+    let s = c .before .before .before .before .before .before in
+    sym (length-take-le _ _ (omega (arith, product-le (s .args .n) (s .args .n) 16 16 (s .pre .2) (s .pre .2))))
 
 array-borrow-prefix-w : tie.Need-array-borrow-prefix-w
 array-borrow-prefix-w c = search needs
@@ -33,10 +37,14 @@ slice-aggregate-project-onto-2 : tie.Need-slice-aggregate-project-onto-2
 slice-aggregate-project-onto-2 c = sym (length-take-le _ _ (search needs))
 
 array-borrow-prefix-r : tie.Need-array-borrow-prefix-r
-array-borrow-prefix-r c = let s = c .before .before .before .before .before .before .before in omega (arith, product-le (s .args .n) (s .args .n) 16 16 (s .pre .2) (s .pre .2))
+array-borrow-prefix-r c =
+    let s = c .before .before .before .before .before .before .before in
+    omega (arith, product-le (s .args .n) (s .args .n) 16 16 (s .pre .2) (s .pre .2))
 
 slice-aggregate-project-onto-3 : tie.Need-slice-aggregate-project-onto-3
-slice-aggregate-project-onto-3 c = let s = c .before .before .before .before .before .before .before .before in sym (length-take-le _ _ (omega (arith, product-le (s .args .n) (s .args .n) 16 16 (s .pre .2) (s .pre .2))))
+slice-aggregate-project-onto-3 c =
+    let s = c .before .before .before .before .before .before .before .before in
+    sym (length-take-le _ _ (omega (arith, product-le (s .args .n) (s .args .n) 16 16 (s .pre .2) (s .pre .2))))
 
 project-onto-requires : tie.Need-project-onto-requires
 project-onto-requires c κs =

@@ -23,7 +23,9 @@ same-length : tie.Need-same-length
 same-length c = search needs
 
 returns-2 : tie.Need-returns-2
-returns-2 c = admitted _ _ _ _ (c .before .before .before .before .before .before .admit .ensures) _ _ _ (c .before .before .before .before .enum-told .given .1) (c .before .before .project .ensures .0) (c .before .before .project .ensures .1)
+returns-2 c =
+    let project = c .before .before .project .ensures in
+    admitted _ _ _ _ (c .before .before .before .before .before .before .admit .ensures) _ _ _ (c .before .before .before .before .enum-told .given .1) (project .0) (project .1)
 
 pub project-density-spec : {M : Type 1} → statement M
 project-density-spec =

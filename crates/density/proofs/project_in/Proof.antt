@@ -9,10 +9,14 @@ use Rattle.density.proofs.project_in.Statement.{statement}
 use Rattle.density.proofs.project_in.Tie as tie
 
 halve-requires : tie.Need-halve-requires
-halve-requires c κs = (c .before .before .before .before .before .pre .0, c .before .before .before .before .before .pre .1)
+halve-requires c κs =
+    let o = c .before .before .before .before .before in
+    (o .pre .0, o .pre .1)
 
 eigen-requires : tie.Need-eigen-requires
-eigen-requires c κs = (c .before .before .before .v .given ∙ c .before .before .before .before .before .before .before .before .before .before .pre .1, c .before .before .before .before .before .before .before .before .before .before .pre .2, c .before .before .before .before .before .before .before .before .before .before .pre .4, c .before .before .before .before .before .before .before .before .before .before .pre .5)
+eigen-requires c κs =
+    let o = c .before .before .before .before .before .before .before .before .before .before in
+    (c .before .before .before .v .given ∙ o .pre .1, o .pre .2, o .pre .4, o .pre .5)
 
 same-length : tie.Need-same-length
 same-length c = c .before .before .before .before .v2 .given ∙ c .before .before .before .before .before .before .before .before .before .v .given
@@ -24,10 +28,14 @@ returns : tie.Need-returns
 returns c = used-up _ _ _ _ _ _ _ (c .before .before .before .before .before .before .before .before .before .before .halve .ensures) (c .before .before .before .before .before .eigen .ensures) (now (c .before .before .before .before .before .before .before .before .before .before .before .before .before .before .before .before .args .r)) (not-true _ (c .if1 .taken))
 
 fill-requires : tie.Need-fill-requires
-fill-requires c κs = le-trans (le-of-eq (c .before .before .before .w .given ∙ c .before .before .before .before .before .before .before .before .before .before .before .before .before .before .before .before .before .pre .2)) (c .before .before .before .before .before .before .before .before .before .before .before .before .before .before .before .before .before .pre .5)
+fill-requires c κs =
+    let o = c .before .before .before .before .before .before .before .before .before .before .before .before .before .before .before .before .before in
+    le-trans (le-of-eq (c .before .before .before .w .given ∙ o .pre .2)) (o .pre .5)
 
 mix-requires : tie.Need-mix-requires
-mix-requires c κs = (c .before .before .before .before .before .before .before .before .before .before .before .v2 .given ∙ c .before .before .before .before .before .before .before .before .before .before .before .before .before .before .before .before .v .given ∙ c .before .before .before .before .before .before .before .before .before .before .before .before .before .before .before .before .before .before .before .before .before .before .before .pre .1, c .before .before .before .before .w2 .given ∙ c .before .before .before .before .before .before .before .before .before .w .given ∙ c .before .before .before .before .before .before .before .before .before .before .before .before .before .before .before .before .before .before .before .before .before .before .before .pre .2, c .before .before .before .before .before .before .before .before .before .before .before .before .before .before .before .before .before .before .before .before .before .before .before .pre .3, c .before .before .before .before .before .before .before .before .before .before .before .before .before .before .before .before .before .before .before .before .before .before .before .pre .5)
+mix-requires c κs =
+    let o = c .before .before .before .before .before .before .before .before .before .before .before .before .before .before .before .before .before .before .before .before .before .before .before in
+    (c .before .before .before .before .before .before .before .before .before .before .before .v2 .given ∙ c .before .before .before .before .before .before .before .before .before .before .before .before .before .before .before .before .v .given ∙ o .pre .1, c .before .before .before .before .w2 .given ∙ c .before .before .before .before .before .before .before .before .before .w .given ∙ o .pre .2, o .pre .3, o .pre .5)
 
 finite-or-requires : tie.Need-finite-or-requires
 finite-or-requires c κs = search needs

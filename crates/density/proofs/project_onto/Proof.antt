@@ -6,7 +6,9 @@ use Rattle.density.proofs.project_onto.Statement.{statement}
 use Rattle.density.proofs.project_onto.Tie as tie
 
 project-in-requires : tie.Need-project-in-requires
-project-in-requires c κs = (c .before .before .before .before .before .before .before .before .pre .0, c .before .before .before .before .before .before .before .before .pre .1, c .before .before .before .before .before .before .before .before .pre .2, c .before .before .before .before .before .before .before .before .pre .3, c .before .before .before .before .before .before .before .before .pre .4, c .before .before .before .before .before .before .before .before .pre .5)
+project-in-requires c κs =
+    let o = c .before .before .before .before .before .before .before .before in
+    (o .pre .0, o .pre .1, o .pre .2, o .pre .3, o .pre .4, o .pre .5)
 
 enum-known-found : tie.Need-enum-known-found
 enum-known-found c = search needs

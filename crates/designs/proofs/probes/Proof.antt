@@ -47,7 +47,9 @@ loop-less : tie.Need-loop-less Inv-loop μ-loop
 loop-less c = search needs
 
 loop-again : tie.Need-loop-again Inv-loop μ-loop
-loop-again c = let f = c .before .before .before .four-to .ensures in (search needs, search needs, fill-more _ _ _ _ _ (omega (arith, square (f .0) (f .1) .all)) (c .before .before .loop .inv .2) (c .expectation .ensures))
+loop-again c =
+    let f = c .before .before .before .four-to .ensures in
+    (search needs, search needs, fill-more _ _ _ _ _ (omega (arith, square (f .0) (f .1) .all)) (c .before .before .loop .inv .2) (c .expectation .ensures))
 
 same-length : tie.Need-same-length Inv-loop μ-loop
 same-length c = search needs

@@ -11,16 +11,24 @@ use Rattle.diagnostics.proofs.add_both.Statement.{statement}
 use Rattle.diagnostics.proofs.add_both.Tie as tie
 
 sequence-length-requires : tie.Need-sequence-length-requires
-sequence-length-requires c κs = (c .before .before .before .before .before .before .before .before .before .pre .0, c .before .before .before .before .before .before .before .before .before .pre .1 .there)
+sequence-length-requires c κs =
+    let o = c .before .before .before .before .before .before .before .before .before in
+    (o .pre .0, o .pre .1 .there)
 
 load-sequence-requires : tie.Need-load-sequence-requires
-load-sequence-requires c κs = (c .before .before .before .before .before .before .before .before .before .before .before .pre .0, c .before .before .before .before .before .before .before .before .before .before .before .pre .1, c .before .sequence-length .ensures, room-part _ _ _ _ _ (c .before .sequence-length .ensures) (c .before .before .before .before .before .before .before .before .before .before .before .pre .1 .short) (c .before .before .before .before .before .before .before .before .before .before .before .pre .4) refl)
+load-sequence-requires c κs =
+    let o = c .before .before .before .before .before .before .before .before .before .before .before in
+    (o .pre .0, o .pre .1, c .before .sequence-length .ensures, room-part _ _ _ _ _ (c .before .sequence-length .ensures) (o .pre .1 .short) (o .pre .4) refl)
 
 slice-reshare-prefix-check-sequence : tie.Need-slice-reshare-prefix-check-sequence
-slice-reshare-prefix-check-sequence c = room-part _ _ _ _ _ (c .before .before .before .before .sequence-length .ensures) (c .before .before .before .before .before .before .before .before .before .before .before .before .before .before .pre .1 .short) (c .before .before .before .before .before .before .before .before .before .before .before .before .before .before .pre .4) (c .before .before .load-sequence .kept .1 .1 .1 .1 .0)
+slice-reshare-prefix-check-sequence c =
+    let o = c .before .before .before .before .before .before .before .before .before .before .before .before .before .before in
+    room-part _ _ _ _ _ (c .before .before .before .before .sequence-length .ensures) (o .pre .1 .short) (o .pre .4) (c .before .before .load-sequence .kept .1 .1 .1 .1 .0)
 
 slice-aggregate-check-sequence : tie.Need-slice-aggregate-check-sequence
-slice-aggregate-check-sequence c = sym (length-take-le _ _ (room-part _ _ _ _ _ (c .before .before .before .before .before .sequence-length .ensures) (c .before .before .before .before .before .before .before .before .before .before .before .before .before .before .before .pre .1 .short) (c .before .before .before .before .before .before .before .before .before .before .before .before .before .before .before .pre .4) (c .before .before .before .load-sequence .kept .1 .1 .1 .1 .0)))
+slice-aggregate-check-sequence c =
+    let o = c .before .before .before .before .before .before .before .before .before .before .before .before .before .before .before in
+    sym (length-take-le _ _ (room-part _ _ _ _ _ (c .before .before .before .before .before .sequence-length .ensures) (o .pre .1 .short) (o .pre .4) (c .before .before .before .load-sequence .kept .1 .1 .1 .1 .0)))
 
 check-sequence-requires : tie.Need-check-sequence-requires
 check-sequence-requires c κs = tt
@@ -38,19 +46,31 @@ enum-told : tie.Need-enum-told
 enum-told c = c .match .keys2
 
 slice-reshare-prefix-weigh-both : tie.Need-slice-reshare-prefix-weigh-both
-slice-reshare-prefix-weigh-both c = room-part _ _ _ _ _ (c .before .before .before .before .before .before .before .before .sequence-length .ensures) (c .before .before .before .before .before .before .before .before .before .before .before .before .before .before .before .before .before .before .pre .1 .short) (c .before .before .before .before .before .before .before .before .before .before .before .before .before .before .before .before .before .before .pre .4) (c .before .before .before .before .before .before .load-sequence .kept .1 .1 .1 .1 .0)
+slice-reshare-prefix-weigh-both c =
+    let o = c .before .before .before .before .before .before .before .before .before .before .before .before .before .before .before .before .before .before in
+    room-part _ _ _ _ _ (c .before .before .before .before .before .before .before .before .sequence-length .ensures) (o .pre .1 .short) (o .pre .4) (c .before .before .before .before .before .before .load-sequence .kept .1 .1 .1 .1 .0)
 
 slice-aggregate-weigh-both : tie.Need-slice-aggregate-weigh-both
-slice-aggregate-weigh-both c = sym (length-take-le _ _ (room-part _ _ _ _ _ (c .before .before .before .before .before .before .before .before .before .sequence-length .ensures) (c .before .before .before .before .before .before .before .before .before .before .before .before .before .before .before .before .before .before .before .pre .1 .short) (c .before .before .before .before .before .before .before .before .before .before .before .before .before .before .before .before .before .before .before .pre .4) (c .before .before .before .before .before .before .before .load-sequence .kept .1 .1 .1 .1 .0)))
+slice-aggregate-weigh-both c =
+    let o = c .before .before .before .before .before .before .before .before .before .before .before .before .before .before .before .before .before .before .before in
+    sym (length-take-le _ _ (room-part _ _ _ _ _ (c .before .before .before .before .before .before .before .before .before .sequence-length .ensures) (o .pre .1 .short) (o .pre .4) (c .before .before .before .before .before .before .before .load-sequence .kept .1 .1 .1 .1 .0)))
 
 weigh-both-requires : tie.Need-weigh-both-requires
-weigh-both-requires c κs = (c .before .before .before .before .before .before .before .before .before .before .before .before .before .before .before .before .before .before .before .before .before .before .pre .0, c .before .before .before .before .before .before .before .before .before .before .before .before .before .before .before .before .before .before .before .before .before .before .pre .1 .there, c .before .before .before .before .before .before .before .before .before .before .before .before .before .before .before .before .before .before .before .before .before .before .pre .2, c .before .before .before .before .before .before .before .before .before .before .before .before .before .before .before .before .before .before .before .before .before .before .pre .3, sym (c .before .before .before .before .before .before .check-sequence .ensures) ∙ c .before .before .before .before .enum-told .given .1, c .before .before .before .before .before .before .before .before .before .before .before .before .before .before .before .before .before .before .before .before .before .before .pre .5, c .before .before .before .before .before .before .before .before .before .before .before .before .before .before .before .before .before .before .before .before .before .before .pre .6, c .before .before .before .before .before .before .before .before .before .before .before .before .before .before .before .before .before .before .before .before .before .before .pre .7)
+weigh-both-requires c κs =
+    let o = c .before .before .before .before .before .before .before .before .before .before .before .before .before .before .before .before .before .before .before .before .before .before in
+    (o .pre .0, o .pre .1 .there, o .pre .2, o .pre .3, sym (c .before .before .before .before .before .before .check-sequence .ensures) ∙ c .before .before .before .before .enum-told .given .1, o .pre .5, o .pre .6, o .pre .7)
 
 same-length : tie.Need-same-length
 same-length c = c .before .before .before .before .before .before .before .before .before .load-sequence .kept .1 .1 .1 .1 .0
 
 returns : tie.Need-returns
-returns c = let a = c .before .before .before .before .before .before .before .before .before .before .before .before .before .before .before .before .before .before .before .before .before .args in let log = lnBy (entriesOf (now (a .quotients))) (entriesOf (now (a .remainders))) in let q = front-again _ _ (c .before .before .before .before .before .before .before .before .before .load-sequence .ensures) (sym (c .before .before .before .before .before .before .before .before .before .before .before .sequence-length .ensures)) in (absent log false (a .tolerance) (now (a .card)) (a .h) (now (a .model)) (a .r) _ _ q (c .before .before .before .before .before .check-sequence .ensures) _ (c .before .before .before .found .given .1) (a .b .first) _ (c .before .refuse-onward .ensures), absent log false (a .tolerance) (now (a .card)) (a .h) (now (a .other)) (a .r) _ _ q (c .before .before .before .before .before .check-sequence .ensures) _ (c .before .before .before .found .given .1) (a .b .second) _ (c .refuse-onward2 .ensures))
+returns c =
+    let check-sequence = c .before .before .before .before .before .check-sequence .ensures in
+    let found = c .before .before .before .found .given in
+    let a = c .before .before .before .before .before .before .before .before .before .before .before .before .before .before .before .before .before .before .before .before .before .args in
+    let log = lnBy (entriesOf (now (a .quotients))) (entriesOf (now (a .remainders))) in
+    let q = front-again _ _ (c .before .before .before .before .before .before .before .before .before .load-sequence .ensures) (sym (c .before .before .before .before .before .before .before .before .before .before .before .sequence-length .ensures)) in
+    (absent log false (a .tolerance) (now (a .card)) (a .h) (now (a .model)) (a .r) _ _ q check-sequence _ (found .1) (a .b .first) _ (c .before .refuse-onward .ensures), absent log false (a .tolerance) (now (a .card)) (a .h) (now (a .other)) (a .r) _ _ q check-sequence _ (found .1) (a .b .second) _ (c .refuse-onward2 .ensures))
 
 same-length-2 : tie.Need-same-length-2
 same-length-2 c = c .before .before .before .before .before .before .before .before .before .before .before .before .before .before .before .before .before .load-sequence .kept .1 .1 .1 .1 .0
@@ -65,7 +85,14 @@ same-length-5 : tie.Need-same-length-5
 same-length-5 c = c .before .before .before .before .before .before .weigh-both .kept .1 .1 .1 .1 .1 .1 .1 .1 .1 .1 .1 .1 .1 .0
 
 returns-2 : tie.Need-returns-2
-returns-2 c = let a = c .before .before .before .before .before .before .before .before .before .before .before .before .before .before .before .before .before .before .before .before .before .before .before .before .before .before .before .before .before .args in let log = lnBy (entriesOf (now (a .quotients))) (entriesOf (now (a .remainders))) in let q = front-again _ _ (c .before .before .before .before .before .before .before .before .before .before .before .before .before .before .before .before .before .load-sequence .ensures) (sym (c .before .before .before .before .before .before .before .before .before .before .before .before .before .before .before .before .before .before .before .sequence-length .ensures)) in (present log false (a .tolerance) (now (a .card)) (a .h) (now (a .model)) (a .r) _ _ q (c .before .before .before .before .before .before .before .before .before .before .before .before .before .check-sequence .ensures) (c .before .before .before .before .before .before .before .before .before .before .before .enum-told .given .1) (a .b .first) _ (c .before .before .before .before .before .before .weigh-both .ensures .0), present log false (a .tolerance) (now (a .card)) (a .h) (now (a .other)) (a .r) _ _ q (c .before .before .before .before .before .before .before .before .before .before .before .before .before .check-sequence .ensures) (c .before .before .before .before .before .before .before .before .before .before .before .enum-told .given .1) (a .b .second) _ (c .before .before .before .before .before .before .weigh-both .ensures .1))
+returns-2 c =
+    let check-sequence = c .before .before .before .before .before .before .before .before .before .before .before .before .before .check-sequence .ensures in
+    let enum-told-2 = c .before .before .before .before .before .before .before .before .before .before .before .enum-told .given in
+    let weigh-both = c .before .before .before .before .before .before .weigh-both .ensures in
+    let a = c .before .before .before .before .before .before .before .before .before .before .before .before .before .before .before .before .before .before .before .before .before .before .before .before .before .before .before .before .before .args in
+    let log = lnBy (entriesOf (now (a .quotients))) (entriesOf (now (a .remainders))) in
+    let q = front-again _ _ (c .before .before .before .before .before .before .before .before .before .before .before .before .before .before .before .before .before .load-sequence .ensures) (sym (c .before .before .before .before .before .before .before .before .before .before .before .before .before .before .before .before .before .before .before .sequence-length .ensures)) in
+    (present log false (a .tolerance) (now (a .card)) (a .h) (now (a .model)) (a .r) _ _ q check-sequence (enum-told-2 .1) (a .b .first) _ (weigh-both .0), present log false (a .tolerance) (now (a .card)) (a .h) (now (a .other)) (a .r) _ _ q check-sequence (enum-told-2 .1) (a .b .second) _ (weigh-both .1))
 
 pub add-both-spec : {M : Type 1} → statement M
 add-both-spec =

@@ -9,16 +9,24 @@ use Rattle.diagnostics.proofs.add_record.Statement.{statement}
 use Rattle.diagnostics.proofs.add_record.Tie as tie
 
 sequence-length-requires : tie.Need-sequence-length-requires
-sequence-length-requires c κs = (c .before .before .before .before .before .before .pre .0, c .before .before .before .before .before .before .pre .1 .there)
+sequence-length-requires c κs =
+    let o = c .before .before .before .before .before .before in
+    (o .pre .0, o .pre .1 .there)
 
 load-sequence-requires : tie.Need-load-sequence-requires
-load-sequence-requires c κs = (c .before .before .before .before .before .before .before .before .pre .0, c .before .before .before .before .before .before .before .before .pre .1, c .before .sequence-length .ensures, room-part _ _ _ _ _ (c .before .sequence-length .ensures) (c .before .before .before .before .before .before .before .before .pre .1 .short) (c .before .before .before .before .before .before .before .before .pre .3) refl)
+load-sequence-requires c κs =
+    let o = c .before .before .before .before .before .before .before .before in
+    (o .pre .0, o .pre .1, c .before .sequence-length .ensures, room-part _ _ _ _ _ (c .before .sequence-length .ensures) (o .pre .1 .short) (o .pre .3) refl)
 
 slice-reshare-prefix-check-sequence : tie.Need-slice-reshare-prefix-check-sequence
-slice-reshare-prefix-check-sequence c = room-part _ _ _ _ _ (c .before .before .before .before .sequence-length .ensures) (c .before .before .before .before .before .before .before .before .before .before .before .pre .1 .short) (c .before .before .before .before .before .before .before .before .before .before .before .pre .3) (c .before .before .load-sequence .kept .1 .1 .1 .1 .0)
+slice-reshare-prefix-check-sequence c =
+    let o = c .before .before .before .before .before .before .before .before .before .before .before in
+    room-part _ _ _ _ _ (c .before .before .before .before .sequence-length .ensures) (o .pre .1 .short) (o .pre .3) (c .before .before .load-sequence .kept .1 .1 .1 .1 .0)
 
 slice-aggregate-check-sequence : tie.Need-slice-aggregate-check-sequence
-slice-aggregate-check-sequence c = sym (length-take-le _ _ (room-part _ _ _ _ _ (c .before .before .before .before .before .sequence-length .ensures) (c .before .before .before .before .before .before .before .before .before .before .before .before .pre .1 .short) (c .before .before .before .before .before .before .before .before .before .before .before .before .pre .3) (c .before .before .before .load-sequence .kept .1 .1 .1 .1 .0)))
+slice-aggregate-check-sequence c =
+    let o = c .before .before .before .before .before .before .before .before .before .before .before .before in
+    sym (length-take-le _ _ (room-part _ _ _ _ _ (c .before .before .before .before .before .sequence-length .ensures) (o .pre .1 .short) (o .pre .3) (c .before .before .before .load-sequence .kept .1 .1 .1 .1 .0)))
 
 check-sequence-requires : tie.Need-check-sequence-requires
 check-sequence-requires c κs = tt
@@ -30,10 +38,14 @@ enum-told : tie.Need-enum-told
 enum-told c = c .match .keys2
 
 slice-reshare-prefix-weigh-record : tie.Need-slice-reshare-prefix-weigh-record
-slice-reshare-prefix-weigh-record c = room-part _ _ _ _ _ (c .before .before .before .before .before .before .before .before .sequence-length .ensures) (c .before .before .before .before .before .before .before .before .before .before .before .before .before .before .before .pre .1 .short) (c .before .before .before .before .before .before .before .before .before .before .before .before .before .before .before .pre .3) (c .before .before .before .before .before .before .load-sequence .kept .1 .1 .1 .1 .0)
+slice-reshare-prefix-weigh-record c =
+    let o = c .before .before .before .before .before .before .before .before .before .before .before .before .before .before .before in
+    room-part _ _ _ _ _ (c .before .before .before .before .before .before .before .before .sequence-length .ensures) (o .pre .1 .short) (o .pre .3) (c .before .before .before .before .before .before .load-sequence .kept .1 .1 .1 .1 .0)
 
 slice-aggregate-weigh-record : tie.Need-slice-aggregate-weigh-record
-slice-aggregate-weigh-record c = sym (length-take-le _ _ (room-part _ _ _ _ _ (c .before .before .before .before .before .before .before .before .before .sequence-length .ensures) (c .before .before .before .before .before .before .before .before .before .before .before .before .before .before .before .before .pre .1 .short) (c .before .before .before .before .before .before .before .before .before .before .before .before .before .before .before .before .pre .3) (c .before .before .before .before .before .before .before .load-sequence .kept .1 .1 .1 .1 .0)))
+slice-aggregate-weigh-record c =
+    let o = c .before .before .before .before .before .before .before .before .before .before .before .before .before .before .before .before in
+    sym (length-take-le _ _ (room-part _ _ _ _ _ (c .before .before .before .before .before .before .before .before .before .sequence-length .ensures) (o .pre .1 .short) (o .pre .3) (c .before .before .before .before .before .before .before .load-sequence .kept .1 .1 .1 .1 .0)))
 
 weigh-record-requires : tie.Need-weigh-record-requires
 weigh-record-requires c κs =

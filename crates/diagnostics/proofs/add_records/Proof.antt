@@ -24,7 +24,10 @@ loop-holds : tie.Need-loop-holds Inv-loop μ-loop
 loop-holds c = (zero-le, refl, refl, refl, fold-none _ _)
 
 record-onward-requires : tie.Need-record-onward-requires Inv-loop μ-loop
-record-onward-requires c κs = let s = c .before .before .before .before .before .before .before .before .before .before .before .pre in let v = c .before .before .before .before .loop .inv in (s .0, s .1 _ (c .before .before .before .loop-test .taken), s .2, room-on _ _ _ (s .3) (v .1), room-on _ _ _ (s .4) (v .2), room-on _ _ _ (s .5) (v .3))
+record-onward-requires c κs =
+    let s = c .before .before .before .before .before .before .before .before .before .before .before .pre in
+    let v = c .before .before .before .before .loop .inv in
+    (s .0, s .1 _ (c .before .before .before .loop-test .taken), s .2, room-on _ _ _ (s .3) (v .1), room-on _ _ _ (s .4) (v .2), room-on _ _ _ (s .5) (v .3))
 
 add-r : tie.Need-add-r Inv-loop μ-loop
 add-r c = record-fits _ _ (c .before .before .before .before .before .before .before .before .before .before .loop-test .taken) (c .before .before .before .before .before .before .before .before .before .before .before .before .before .before .before .before .before .before .pre .0 .limits .records)
@@ -33,7 +36,11 @@ loop-less : tie.Need-loop-less Inv-loop μ-loop
 loop-less c = add-one-dec _ _ (c .before .before .before .before .before .before .before .before .before .before .loop-test .taken)
 
 loop-again : tie.Need-loop-again Inv-loop μ-loop
-loop-again c = let k = c .before .before .before .before .before .before .record-onward .kept in let v = c .before .before .before .before .before .before .before .before .before .before .before .loop .inv in (add-one-le (c .before .before .before .before .before .before .before .before .before .before .loop-test .taken), k .1 .1 .1 .1 .1 .1 .1 .1 .1 .0 ∙ v .1, k .1 .1 .1 .1 .1 .1 .1 .1 .1 .1 .0 ∙ v .2, k .1 .1 .1 .1 .1 .1 .1 .1 .1 .1 .1 .0 ∙ v .3, fold-more _ _ _ _ _ (v .4) (c .before .before .before .before .before .before .record-onward .ensures))
+loop-again c =
+    let record-onward = c .before .before .before .before .before .before .record-onward in
+    let k = record-onward .kept in
+    let v = c .before .before .before .before .before .before .before .before .before .before .before .loop .inv in
+    (add-one-le (c .before .before .before .before .before .before .before .before .before .before .loop-test .taken), k .1 .1 .1 .1 .1 .1 .1 .1 .1 .0 ∙ v .1, k .1 .1 .1 .1 .1 .1 .1 .1 .1 .1 .0 ∙ v .2, k .1 .1 .1 .1 .1 .1 .1 .1 .1 .1 .1 .0 ∙ v .3, fold-more _ _ _ _ _ (v .4) (record-onward .ensures))
 
 same-length : tie.Need-same-length Inv-loop μ-loop
 same-length c = c .before .loop .inv .1

@@ -25,7 +25,10 @@ loop-holds : tie.Need-loop-holds Inv-loop μ-loop
 loop-holds c = (zero-le, refl, refl, refl, refl, fold-none _ _, fold-none _ _)
 
 both-onward-requires : tie.Need-both-onward-requires Inv-loop μ-loop
-both-onward-requires c κs = let s = c .before .before .before .before .before .before .before .before .before .before .before .before .before .before .before .pre in let v = c .before .before .before .before .before .loop .inv in (s .0, s .1 _ (c .before .before .before .before .loop-test .taken), s .2, s .3, room-on _ _ _ (s .4) (v .1), room-on _ _ _ (s .5) (v .2), room-on _ _ _ (s .6) (v .3), room-on _ _ _ (s .7) (v .4))
+both-onward-requires c κs =
+    let s = c .before .before .before .before .before .before .before .before .before .before .before .before .before .before .before .pre in
+    let v = c .before .before .before .before .before .loop .inv in
+    (s .0, s .1 _ (c .before .before .before .before .loop-test .taken), s .2, s .3, room-on _ _ _ (s .4) (v .1), room-on _ _ _ (s .5) (v .2), room-on _ _ _ (s .6) (v .3), room-on _ _ _ (s .7) (v .4))
 
 add-r : tie.Need-add-r Inv-loop μ-loop
 add-r c = record-fits _ _ (c .before .before .before .before .before .before .before .before .before .before .before .before .before .loop-test .taken) (c .before .before .before .before .before .before .before .before .before .before .before .before .before .before .before .before .before .before .before .before .before .before .before .before .pre .0 .limits .records)
@@ -34,7 +37,11 @@ loop-less : tie.Need-loop-less Inv-loop μ-loop
 loop-less c = add-one-dec _ _ (c .before .before .before .before .before .before .before .before .before .before .before .before .before .loop-test .taken)
 
 loop-again : tie.Need-loop-again Inv-loop μ-loop
-loop-again c = let k = c .before .before .before .before .before .before .before .before .both-onward .kept in let v = c .before .before .before .before .before .before .before .before .before .before .before .before .before .before .loop .inv in (add-one-le (c .before .before .before .before .before .before .before .before .before .before .before .before .before .loop-test .taken), k .1 .1 .1 .1 .1 .1 .1 .1 .1 .1 .0 ∙ v .1, k .1 .1 .1 .1 .1 .1 .1 .1 .1 .1 .1 .0 ∙ v .2, k .1 .1 .1 .1 .1 .1 .1 .1 .1 .1 .1 .1 .0 ∙ v .3, k .1 .1 .1 .1 .1 .1 .1 .1 .1 .1 .1 .1 .1 .0 ∙ v .4, fold-more _ _ _ _ _ (v .5) (c .before .before .before .before .before .before .before .before .both-onward .ensures .0), fold-more _ _ _ _ _ (v .6) (c .before .before .before .before .before .before .before .before .both-onward .ensures .1))
+loop-again c =
+    let both-onward = c .before .before .before .before .before .before .before .before .both-onward in
+    let k = both-onward .kept in
+    let v = c .before .before .before .before .before .before .before .before .before .before .before .before .before .before .loop .inv in
+    (add-one-le (c .before .before .before .before .before .before .before .before .before .before .before .before .before .loop-test .taken), k .1 .1 .1 .1 .1 .1 .1 .1 .1 .1 .0 ∙ v .1, k .1 .1 .1 .1 .1 .1 .1 .1 .1 .1 .1 .0 ∙ v .2, k .1 .1 .1 .1 .1 .1 .1 .1 .1 .1 .1 .1 .0 ∙ v .3, k .1 .1 .1 .1 .1 .1 .1 .1 .1 .1 .1 .1 .1 .0 ∙ v .4, fold-more _ _ _ _ _ (v .5) (both-onward .ensures .0), fold-more _ _ _ _ _ (v .6) (both-onward .ensures .1))
 
 same-length : tie.Need-same-length Inv-loop μ-loop
 same-length c = c .before .loop .inv .1
@@ -50,7 +57,9 @@ same-length-4 c = c .before .loop .inv .4
 
 returns : tie.Need-returns Inv-loop μ-loop
 unfolding likelihoodBy
-returns c = let e = turn-last _ _ _ (c .loop-test .left) (c .before .loop .inv .0) refl in (fold-end _ _ _ _ _ e (c .before .loop .inv .5), fold-end _ _ _ _ _ e (c .before .loop .inv .6))
+returns c =
+    let e = turn-last _ _ _ (c .loop-test .left) (c .before .loop .inv .0) refl in
+    (fold-end _ _ _ _ _ e (c .before .loop .inv .5), fold-end _ _ _ _ _ e (c .before .loop .inv .6))
 
 pub add-records-both-spec : {M : Type 1} → statement M
 add-records-both-spec =

@@ -7,13 +7,19 @@ use Rattle.diagnostics.proofs.fit_diagnostics.Statement.{statement}
 use Rattle.diagnostics.proofs.fit_diagnostics.Tie as tie
 
 mul-size : tie.Need-mul-size
-mul-size c = square-fits (c .before .before .before .args .h) (c .before .before .before .pre .0 .limits)
+mul-size c =
+    let o = c .before .before .before in
+    square-fits (o .args .h) (o .pre .0 .limits)
 
 mul-size-2 : tie.Need-mul-size-2
-mul-size-2 c = gates-fit (c .before .before .before .args .h) (c .before .before .before .pre .0 .limits)
+mul-size-2 c =
+    let o = c .before .before .before in
+    gates-fit (o .args .h) (o .pre .0 .limits)
 
 gates-by-columns-requires : tie.Need-gates-by-columns-requires
-gates-by-columns-requires c κs = let l = c .before .before .before .before .pre .0 .limits in (l .dimension, l .effects, l .gates, c .before .before .before .before .pre .2, c .before .before .before .before .pre .3)
+gates-by-columns-requires c κs =
+    let o = c .before .before .before .before in
+    let l = o .pre .0 .limits in (l .dimension, l .effects, l .gates, o .pre .2, o .pre .3)
 
 tables-requires : tie.Need-tables-requires
 tables-requires c κs = tt
@@ -43,7 +49,9 @@ slice-aggregate-add-records-4 : tie.Need-slice-aggregate-add-records-4
 slice-aggregate-add-records-4 c = c .before .before .before .before .before .before .before .probabilities-room .ensures
 
 add-records-requires : tie.Need-add-records-requires
-add-records-requires c κs = (c .before .before .before .before .before .before .before .before .before .before .before .before .before .before .before .before .before .before .pre .0, c .before .before .before .before .before .before .before .before .before .before .before .before .before .before .before .before .before .before .pre .1, (c .before .before .before .before .before .before .before .before .before .before .before .before .before .before .before .before .before .before .pre .2, columns-lent _ _ _ _ _ _ (c .before .before .before .before .before .before .before .before .before .before .before .before .before .gates-by-columns .ensures)), room-new _ _ (c .before .before .before .before .before .before .before .before .before .sequence-room .ensures), room-new _ _ (c .before .before .before .before .before .before .before .before .counts-room .ensures), room-new _ _ (c .before .before .before .before .before .before .before .probabilities-room .ensures))
+add-records-requires c κs =
+    let o = c .before .before .before .before .before .before .before .before .before .before .before .before .before .before .before .before .before .before in
+    (o .pre .0, o .pre .1, (o .pre .2, columns-lent _ _ _ _ _ _ (c .before .before .before .before .before .before .before .before .before .before .before .before .before .gates-by-columns .ensures)), room-new _ _ (c .before .before .before .before .before .before .before .before .before .sequence-room .ensures), room-new _ _ (c .before .before .before .before .before .before .before .before .counts-room .ensures), room-new _ _ (c .before .before .before .before .before .before .before .probabilities-room .ensures))
 
 same-length : tie.Need-same-length
 same-length c = c .before .before .before .before .before .before .before .before .before .before .before .before .before .before .before .before .before .gates-by-columns .kept .1 .1 .1 .1 .0

@@ -7,16 +7,24 @@ use Rattle.diagnostics.proofs.fit_diagnostics_both.Statement.{statement
 use Rattle.diagnostics.proofs.fit_diagnostics_both.Tie as tie
 
 mul-size : tie.Need-mul-size
-mul-size c = square-fits (c .before .before .before .before .before .args .h) (c .before .before .before .before .before .pre .0 .limits)
+mul-size c =
+    let o = c .before .before .before .before .before in
+    square-fits (o .args .h) (o .pre .0 .limits)
 
 mul-size-2 : tie.Need-mul-size-2
-mul-size-2 c = gates-fit (c .before .before .before .before .before .args .h) (c .before .before .before .before .before .pre .0 .limits)
+mul-size-2 c =
+    let o = c .before .before .before .before .before in
+    gates-fit (o .args .h) (o .pre .0 .limits)
 
 gates-by-columns-requires : tie.Need-gates-by-columns-requires
-gates-by-columns-requires c κs = let l = c .before .before .before .before .before .before .pre .0 .limits in (l .dimension, l .effects, l .gates, c .before .before .before .before .before .before .pre .2, c .before .before .before .before .before .before .pre .4)
+gates-by-columns-requires c κs =
+    let o = c .before .before .before .before .before .before in
+    let l = o .pre .0 .limits in (l .dimension, l .effects, l .gates, o .pre .2, o .pre .4)
 
 gates-by-columns-requires-2 : tie.Need-gates-by-columns-requires-2
-gates-by-columns-requires-2 c κs = let l = c .before .before .before .before .before .before .before .before .before .before .pre .0 .limits in (l .dimension, l .effects, l .gates, c .before .before .before .before .before .before .before .before .before .before .pre .3, c .before .before .before .before .before .before .before .before .before .before .pre .5)
+gates-by-columns-requires-2 c κs =
+    let o = c .before .before .before .before .before .before .before .before .before .before in
+    let l = o .pre .0 .limits in (l .dimension, l .effects, l .gates, o .pre .3, o .pre .5)
 
 tables-requires : tie.Need-tables-requires
 tables-requires c κs = tt
@@ -58,7 +66,9 @@ slice-aggregate-add-records-both-6 : tie.Need-slice-aggregate-add-records-both-6
 slice-aggregate-add-records-both-6 c = c .before .before .before .before .before .before .before .before .before .probabilities-room2 .ensures
 
 add-records-both-requires : tie.Need-add-records-both-requires
-add-records-both-requires c κs = (c .before .before .before .before .before .before .before .before .before .before .before .before .before .before .before .before .before .before .before .before .before .before .before .before .before .before .before .pre .0, c .before .before .before .before .before .before .before .before .before .before .before .before .before .before .before .before .before .before .before .before .before .before .before .before .before .before .before .pre .1, (c .before .before .before .before .before .before .before .before .before .before .before .before .before .before .before .before .before .before .before .before .before .before .before .before .before .before .before .pre .2, columns-lent _ _ _ _ _ _ (c .before .before .before .before .before .before .before .before .before .before .before .before .before .before .before .before .before .before .before .before .gates-by-columns .ensures)), (c .before .before .before .before .before .before .before .before .before .before .before .before .before .before .before .before .before .before .before .before .before .before .before .before .before .before .before .pre .3, columns-lent _ _ _ _ _ _ (c .before .before .before .before .before .before .before .before .before .before .before .before .before .before .before .before .gates-by-columns2 .ensures)), room-new _ _ (c .before .before .before .before .before .before .before .before .before .before .before .before .sequence-room .ensures), room-new _ _ (c .before .before .before .before .before .before .before .before .before .before .before .counts-room .ensures), room-new _ _ (c .before .before .before .before .before .before .before .before .before .before .probabilities-room .ensures), room-new _ _ (c .before .before .before .before .before .before .before .before .before .probabilities-room2 .ensures))
+add-records-both-requires c κs =
+    let o = c .before .before .before .before .before .before .before .before .before .before .before .before .before .before .before .before .before .before .before .before .before .before .before .before .before .before .before in
+    (o .pre .0, o .pre .1, (o .pre .2, columns-lent _ _ _ _ _ _ (c .before .before .before .before .before .before .before .before .before .before .before .before .before .before .before .before .before .before .before .before .gates-by-columns .ensures)), (o .pre .3, columns-lent _ _ _ _ _ _ (c .before .before .before .before .before .before .before .before .before .before .before .before .before .before .before .before .gates-by-columns2 .ensures)), room-new _ _ (c .before .before .before .before .before .before .before .before .before .before .before .before .sequence-room .ensures), room-new _ _ (c .before .before .before .before .before .before .before .before .before .before .before .counts-room .ensures), room-new _ _ (c .before .before .before .before .before .before .before .before .before .before .probabilities-room .ensures), room-new _ _ (c .before .before .before .before .before .before .before .before .before .probabilities-room2 .ensures))
 
 same-length : tie.Need-same-length
 same-length c = c .before .before .before .before .before .before .before .before .before .before .before .before .before .before .before .before .before .before .before .before .before .before .before .before .before .gates-by-columns .kept .1 .1 .1 .1 .0
@@ -67,7 +77,10 @@ same-length-2 : tie.Need-same-length-2
 same-length-2 c = c .before .before .before .before .before .before .before .before .before .before .before .before .before .before .before .before .before .before .before .before .before .gates-by-columns2 .kept .1 .1 .1 .1 .0
 
 returns : tie.Need-returns
-returns c = (by-logarithm _ _ (c .before .before .before .before .before .before .before .before .before .before .before .before .before .before .before .before .before .before .tables .ensures) _ _ _ _ _ _ (c .before .before .before .before .add-records-both .ensures .0), by-logarithm _ _ (c .before .before .before .before .before .before .before .before .before .before .before .before .before .before .before .before .before .before .tables .ensures) _ _ _ _ _ _ (c .before .before .before .before .add-records-both .ensures .1), columns-over _ _ _ _ _ _ (c .before .before .before .before .before .before .before .before .before .before .before .before .before .before .before .before .before .before .before .before .before .before .before .before .before .gates-by-columns .ensures), columns-over _ _ _ _ _ _ (c .before .before .before .before .before .before .before .before .before .before .before .before .before .before .before .before .before .before .before .before .before .gates-by-columns2 .ensures))
+returns c =
+    let tables = c .before .before .before .before .before .before .before .before .before .before .before .before .before .before .before .before .before .before .tables .ensures in
+    let add-records-both = c .before .before .before .before .add-records-both .ensures in
+    (by-logarithm _ _ tables _ _ _ _ _ _ (add-records-both .0), by-logarithm _ _ tables _ _ _ _ _ _ (add-records-both .1), columns-over _ _ _ _ _ _ (c .before .before .before .before .before .before .before .before .before .before .before .before .before .before .before .before .before .before .before .before .before .before .before .before .before .gates-by-columns .ensures), columns-over _ _ _ _ _ _ (c .before .before .before .before .before .before .before .before .before .before .before .before .before .before .before .before .before .before .before .before .before .gates-by-columns2 .ensures))
 
 pub fit-diagnostics-both-spec : {M : Type 1} → statement M
 fit-diagnostics-both-spec =

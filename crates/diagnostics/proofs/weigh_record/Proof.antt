@@ -9,22 +9,35 @@ use Rattle.diagnostics.proofs.weigh_record.Statement.{statement}
 use Rattle.diagnostics.proofs.weigh_record.Tie as tie
 
 load-counts-requires : tie.Need-load-counts-requires
-load-counts-requires c κs = (c .before .before .before .before .before .before .before .pre .0, c .before .before .before .before .before .before .before .pre .1, le-trans (c .before .before .before .before .before .before .before .pre .0 .limits .effects) (c .before .before .before .before .before .before .before .pre .4))
+load-counts-requires c κs =
+    let o = c .before .before .before .before .before .before .before in
+    (o .pre .0, o .pre .1, le-trans (o .pre .0 .limits .effects) (o .pre .4))
 
 probabilities-requires : tie.Need-probabilities-requires
-probabilities-requires c κs = let s = c .before .before .before .before .before .before .before .before .before .before .before .pre in (s .0 .limits .dimension, s .0 .limits .effects, vectors-in (c .before .before .before .before .before .before .before .before .before .before .before .args .h) _ (s .2 .0), le-trans (s .0 .limits .effects) (s .5), gates-lie _ _ _ _ _ _ (s .2 .1) (s .3))
+probabilities-requires c κs =
+    let o = c .before .before .before .before .before .before .before .before .before .before .before in
+    let s = o .pre in
+    (s .0 .limits .dimension, s .0 .limits .effects, vectors-in (o .args .h) _ (s .2 .0), le-trans (s .0 .limits .effects) (s .5), gates-lie _ _ _ _ _ _ (s .2 .1) (s .3))
 
 slice-reshare-prefix-with-record : tie.Need-slice-reshare-prefix-with-record
-slice-reshare-prefix-with-record c = room-part _ _ _ _ _ refl (c .before .before .before .before .before .before .before .before .before .before .before .before .before .before .pre .0 .limits .effects) (c .before .before .before .before .before .before .before .before .before .before .before .before .before .before .pre .4) (c .before .before .before .before .before .before .load-counts .kept .1 .1 .1 .0)
+slice-reshare-prefix-with-record c =
+    let o = c .before .before .before .before .before .before .before .before .before .before .before .before .before .before in
+    room-part _ _ _ _ _ refl (o .pre .0 .limits .effects) (o .pre .4) (c .before .before .before .before .before .before .load-counts .kept .1 .1 .1 .0)
 
 slice-aggregate-with-record : tie.Need-slice-aggregate-with-record
-slice-aggregate-with-record c = sym (length-take-le _ _ (room-part _ _ _ _ _ refl (c .before .before .before .before .before .before .before .before .before .before .before .before .before .before .before .pre .0 .limits .effects) (c .before .before .before .before .before .before .before .before .before .before .before .before .before .before .before .pre .4) (c .before .before .before .before .before .before .before .load-counts .kept .1 .1 .1 .0)))
+slice-aggregate-with-record c =
+    let o = c .before .before .before .before .before .before .before .before .before .before .before .before .before .before .before in
+    sym (length-take-le _ _ (room-part _ _ _ _ _ refl (o .pre .0 .limits .effects) (o .pre .4) (c .before .before .before .before .before .before .before .load-counts .kept .1 .1 .1 .0)))
 
 slice-reshare-prefix-with-record-2 : tie.Need-slice-reshare-prefix-with-record-2
-slice-reshare-prefix-with-record-2 c = room-part _ _ _ _ _ refl (c .before .before .before .before .before .before .before .before .before .before .before .before .before .before .before .pre .0 .limits .effects) (c .before .before .before .before .before .before .before .before .before .before .before .before .before .before .before .pre .5) (c .before .before .before .probabilities .kept .1 .1 .1 .1 .1 .0)
+slice-reshare-prefix-with-record-2 c =
+    let o = c .before .before .before .before .before .before .before .before .before .before .before .before .before .before .before in
+    room-part _ _ _ _ _ refl (o .pre .0 .limits .effects) (o .pre .5) (c .before .before .before .probabilities .kept .1 .1 .1 .1 .1 .0)
 
 slice-aggregate-with-record-2 : tie.Need-slice-aggregate-with-record-2
-slice-aggregate-with-record-2 c = sym (length-take-le _ _ (room-part _ _ _ _ _ refl (c .before .before .before .before .before .before .before .before .before .before .before .before .before .before .before .before .pre .0 .limits .effects) (c .before .before .before .before .before .before .before .before .before .before .before .before .before .before .before .before .pre .5) (c .before .before .before .before .probabilities .kept .1 .1 .1 .1 .1 .0)))
+slice-aggregate-with-record-2 c =
+    let o = c .before .before .before .before .before .before .before .before .before .before .before .before .before .before .before .before in
+    sym (length-take-le _ _ (room-part _ _ _ _ _ refl (o .pre .0 .limits .effects) (o .pre .5) (c .before .before .before .before .probabilities .kept .1 .1 .1 .1 .1 .0)))
 
 with-record-requires : tie.Need-with-record-requires
 with-record-requires c κs =

@@ -11,10 +11,14 @@ use Rattle.eigen.proofs.arrange.Statement.{statement}
 use Rattle.eigen.proofs.arrange.Tie as tie
 
 ascend-requires : tie.Need-ascend-requires
-ascend-requires c κs = (c .before .before .before .before .before .before .before .before .before .pre .0, c .before .before .before .before .before .before .before .before .before .pre .3, c .before .before .before .before .before .before .before .before .before .pre .4, c .before .before .before .before .before .before .before .before .before .pre .2)
+ascend-requires c κs =
+    let o = c .before .before .before .before .before .before .before .before .before in
+    (o .pre .0, o .pre .3, o .pre .4, o .pre .2)
 
 columns-requires : tie.Need-columns-requires
-columns-requires c κs = (c .before .before .before .before .before .before .before .before .before .before .before .before .before .before .before .before .before .before .pre .0, c .before .before .before .before .before .before .before .before .before .before .before .before .before .before .before .before .before .before .pre .1, le-of-eq (sym (c .before .before .before .before .before .order .given ∙ c .before .before .before .before .before .before .before .before .before .before .before .before .before .before .before .before .before .before .pre .4)), order-under _ _ _ (c .before .before .before .before .before .before .before .before .ascend .ensures .0))
+columns-requires c κs =
+    let o = c .before .before .before .before .before .before .before .before .before .before .before .before .before .before .before .before .before .before in
+    (o .pre .0, o .pre .1, le-of-eq (sym (c .before .before .before .before .before .order .given ∙ o .pre .4)), order-under _ _ _ (c .before .before .before .before .before .before .before .before .ascend .ensures .0))
 
 same-length : tie.Need-same-length
 same-length c = c .before .a .given
@@ -29,7 +33,11 @@ same-length-4 : tie.Need-same-length-4
 same-length-4 c = c .before .before .before .before .before .before .before .before .order .given
 
 returns : tie.Need-returns
-returns c = (c .before .before .before .before .before .before .before .before .before .before .before .ascend .ensures .1, c .before .before .columns .ensures ∙ ap (λ (o : List ℕ). columnsIn o (c .before .before .before .before .before .before .before .before .before .before .before .before .before .before .before .before .before .before .before .before .before .args .n) (entries (now (c .before .before .before .before .before .before .before .before .before .before .before .before .before .before .before .before .before .before .before .before .before .args .v)))) (c .before .before .before .before .before .before .before .before .before .before .before .ascend .ensures .0))
+returns c =
+    let o-2 = c .before .before .before .before .before .before .before .before .before .before .before .before .before .before .before .before .before .before .before .before .before in
+    let a = o-2 .args in
+    let ascend = c .before .before .before .before .before .before .before .before .before .before .before .ascend .ensures in
+    (ascend .1, c .before .before .columns .ensures ∙ ap (λ (o : List ℕ). columnsIn o (a .n) (entries (now (a .v)))) (ascend .0))
 
 pub arrange-spec : {M : Type 1} → statement M
 arrange-spec =

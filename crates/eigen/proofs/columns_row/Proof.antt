@@ -30,10 +30,16 @@ shared-slice-read-k : tie.Need-shared-slice-read-k Inv-loop μ-loop
 shared-slice-read-k c = search needs
 
 read-requires : tie.Need-read-requires Inv-loop μ-loop
-read-requires c κs = omega (arith, entry-fits (c .before .before .before .before .before .before .before .args .i) _ (c .before .before .before .before .before .before .before .args .n) (c .before .before .before .before .before .before .before .args .n) (c .before .before .before .before .before .before .before .pre .3) (c .before .before .before .before .before .before .before .pre .4 (c .before .before .before .loop .j) (c .before .before .loop-test .taken)))
+read-requires c κs =
+    let o = c .before .before .before .before .before .before .before in
+    let a = o .args in
+    omega (arith, entry-fits (a .i) _ (a .n) (a .n) (o .pre .3) (o .pre .4 (c .before .before .before .loop .j) (c .before .before .loop-test .taken)))
 
 write-requires : tie.Need-write-requires Inv-loop μ-loop
-write-requires c κs = omega (arith, entry-fits (c .before .before .before .before .before .before .before .before .args .i) (c .before .before .before .before .loop .j) (c .before .before .before .before .before .before .before .before .args .n) (c .before .before .before .before .before .before .before .before .args .n) (c .before .before .before .before .before .before .before .before .pre .3) (c .before .before .before .loop-test .taken))
+write-requires c κs =
+    let o = c .before .before .before .before .before .before .before .before in
+    let a = o .args in
+    omega (arith, entry-fits (a .i) (c .before .before .before .before .loop .j) (a .n) (a .n) (o .pre .3) (c .before .before .before .loop-test .taken))
 
 add-j : tie.Need-add-j Inv-loop μ-loop
 add-j c = search needs
@@ -42,7 +48,11 @@ loop-less : tie.Need-loop-less Inv-loop μ-loop
 loop-less c = search needs
 
 loop-again : tie.Need-loop-again Inv-loop μ-loop
-loop-again c = (search needs, search needs, fold-more _ _ _ _ _ (c .before .before .before .before .before .before .before .loop .inv .2) (put-laid (c .before .before .before .before .before .before .before .before .before .before .before .args .n) (λ i j. entryAt (c .before .before .before .before .before .before .before .before .before .before .before .args .n) (entries (now (c .before .before .before .before .before .before .before .before .before .before .before .args .v))) i (getD (now (c .before .before .before .before .before .before .before .before .before .before .before .args .order)) j 0)) (c .before .before .before .before .before .before .before .before .before .before .before .args .i) (c .before .before .before .before .before .before .before .loop .j) (entries (c .before .before .before .before .before .before .before .loop .a)) _ _ (c .before .before .write .ensures) (c .before .before .before .read .ensures)))
+loop-again c =
+    let o = c .before .before .before .before .before .before .before .before .before .before .before in
+    let a = o .args in
+    let l = c .before .before .before .before .before .before .before .loop in
+    (search needs, search needs, fold-more _ _ _ _ _ (l .inv .2) (put-laid (a .n) (λ i j. entryAt (a .n) (entries (now (a .v))) i (getD (now (a .order)) j 0)) (a .i) (l .j) (entries (l .a)) _ _ (c .before .before .write .ensures) (c .before .before .before .read .ensures)))
 
 same-length : tie.Need-same-length Inv-loop μ-loop
 same-length c = search needs

@@ -23,7 +23,10 @@ loop-holds : tie.Need-loop-holds Inv-loop μ-loop
 loop-holds c = (search needs, search needs, fill-none _ _)
 
 read-requires : tie.Need-read-requires Inv-loop μ-loop
-read-requires c κs = omega (arith, entry-fits (c .before .loop .k) (c .before .loop .k) (c .before .before .before .before .args .n) (c .before .before .before .before .args .n) (c .loop-test .taken) (c .loop-test .taken))
+read-requires c κs =
+    let o = c .before .before .before .before in
+    let a = o .args in
+    omega (arith, entry-fits (c .before .loop .k) (c .before .loop .k) (a .n) (a .n) (c .loop-test .taken) (c .loop-test .taken))
 
 mul-d : tie.Need-mul-d Inv-loop μ-loop
 mul-d c = search needs

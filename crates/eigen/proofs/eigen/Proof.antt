@@ -25,31 +25,50 @@ matrix-room-requires : tie.Need-matrix-room-requires
 matrix-room-requires c κs = search needs
 
 array-borrow-prefix-v : tie.Need-array-borrow-prefix-v
-array-borrow-prefix-v c = parts-fit (c .before .before .before .before .before .before .before .before .args .n) _ (c .before .before .before .before .before .before .before .before .pre .3) (c .before .before .matrix-room .ensures)
+array-borrow-prefix-v c =
+    let o = c .before .before .before .before .before .before .before .before in
+    parts-fit (o .args .n) _ (o .pre .3) (c .before .before .matrix-room .ensures)
 
 slice-aggregate-eigen-in : tie.Need-slice-aggregate-eigen-in
-slice-aggregate-eigen-in c = sym (length-take-le _ _ (parts-fit (c .before .before .before .before .before .before .before .before .before .args .n) _ (c .before .before .before .before .before .before .before .before .before .pre .3) (c .before .before .before .matrix-room .ensures)))
+slice-aggregate-eigen-in c =
+    let o = c .before .before .before .before .before .before .before .before .before in
+    sym (length-take-le _ _ (parts-fit (o .args .n) _ (o .pre .3) (c .before .before .before .matrix-room .ensures)))
 
 array-borrow-prefix-bounds : tie.Need-array-borrow-prefix-bounds
-array-borrow-prefix-bounds c = square-fits (c .before .before .before .before .before .before .before .before .before .args .n) _ (c .before .before .before .before .before .before .before .before .before .pre .3) (c .before .before .before .before .before .before .room .ensures)
+array-borrow-prefix-bounds c =
+    let o = c .before .before .before .before .before .before .before .before .before in
+    square-fits (o .args .n) _ (o .pre .3) (c .before .before .before .before .before .before .room .ensures)
 
 slice-aggregate-eigen-in-2 : tie.Need-slice-aggregate-eigen-in-2
-slice-aggregate-eigen-in-2 c = sym (length-take-le _ _ (square-fits (c .before .before .before .before .before .before .before .before .before .before .args .n) _ (c .before .before .before .before .before .before .before .before .before .before .pre .3) (c .before .before .before .before .before .before .before .room .ensures)))
+slice-aggregate-eigen-in-2 c =
+    let o = c .before .before .before .before .before .before .before .before .before .before in
+    sym (length-take-le _ _ (square-fits (o .args .n) _ (o .pre .3) (c .before .before .before .before .before .before .before .room .ensures)))
 
 array-borrow-prefix-sizes : tie.Need-array-borrow-prefix-sizes
-array-borrow-prefix-sizes c = square-fits (c .before .before .before .before .before .before .before .before .before .before .args .n) _ (c .before .before .before .before .before .before .before .before .before .before .pre .3) (c .before .before .before .before .before .before .room2 .ensures)
+array-borrow-prefix-sizes c =
+    let o = c .before .before .before .before .before .before .before .before .before .before in
+    square-fits (o .args .n) _ (o .pre .3) (c .before .before .before .before .before .before .room2 .ensures)
 
 slice-aggregate-eigen-in-3 : tie.Need-slice-aggregate-eigen-in-3
-slice-aggregate-eigen-in-3 c = sym (length-take-le _ _ (square-fits (c .before .before .before .before .before .before .before .before .before .before .before .args .n) _ (c .before .before .before .before .before .before .before .before .before .before .before .pre .3) (c .before .before .before .before .before .before .before .room2 .ensures)))
+slice-aggregate-eigen-in-3 c =
+    let o = c .before .before .before .before .before .before .before .before .before .before .before in
+    sym (length-take-le _ _ (square-fits (o .args .n) _ (o .pre .3) (c .before .before .before .before .before .before .before .room2 .ensures)))
 
 array-borrow-prefix-order : tie.Need-array-borrow-prefix-order
-array-borrow-prefix-order c = rows-fit (c .before .before .before .before .before .before .before .before .before .before .before .args .n) _ (c .before .before .before .before .before .before .before .before .before .before .before .pre .3) (c .before .before .before .before .before .before .places .ensures)
+array-borrow-prefix-order c =
+    let o = c .before .before .before .before .before .before .before .before .before .before .before in
+    rows-fit (o .args .n) _ (o .pre .3) (c .before .before .before .before .before .before .places .ensures)
 
 slice-aggregate-eigen-in-4 : tie.Need-slice-aggregate-eigen-in-4
-slice-aggregate-eigen-in-4 c = sym (length-take-le _ _ (rows-fit (c .before .before .before .before .before .before .before .before .before .before .before .before .args .n) _ (c .before .before .before .before .before .before .before .before .before .before .before .before .pre .3) (c .before .before .before .before .before .before .before .places .ensures)))
+slice-aggregate-eigen-in-4 c =
+    let o = c .before .before .before .before .before .before .before .before .before .before .before .before in
+    sym (length-take-le _ _ (rows-fit (o .args .n) _ (o .pre .3) (c .before .before .before .before .before .before .before .places .ensures)))
 
 eigen-in-requires : tie.Need-eigen-in-requires
-eigen-in-requires c κs = (c .before .before .before .before .before .before .before .before .before .before .before .before .pre .0, c .before .before .before .before .before .before .before .before .before .before .before .before .pre .1, length-take-le _ _ (parts-fit (c .before .before .before .before .before .before .before .before .before .before .before .before .args .n) _ (c .before .before .before .before .before .before .before .before .before .before .before .before .pre .3) (c .before .before .before .before .before .before .matrix-room .ensures)), c .before .before .before .before .before .before .before .before .before .before .before .before .pre .2, length-take-le _ _ (square-fits (c .before .before .before .before .before .before .before .before .before .before .before .before .args .n) _ (c .before .before .before .before .before .before .before .before .before .before .before .before .pre .3) (c .before .before .before .before .before .before .before .before .before .room .ensures)), length-take-le _ _ (square-fits (c .before .before .before .before .before .before .before .before .before .before .before .before .args .n) _ (c .before .before .before .before .before .before .before .before .before .before .before .before .pre .3) (c .before .before .before .before .before .before .before .before .room2 .ensures)), length-take-le _ _ (rows-fit (c .before .before .before .before .before .before .before .before .before .before .before .before .args .n) _ (c .before .before .before .before .before .before .before .before .before .before .before .before .pre .3) (c .before .before .before .before .before .before .before .places .ensures)))
+eigen-in-requires c κs =
+    let o = c .before .before .before .before .before .before .before .before .before .before .before .before in
+    let a = o .args in
+    (o .pre .0, o .pre .1, length-take-le _ _ (parts-fit (a .n) _ (o .pre .3) (c .before .before .before .before .before .before .matrix-room .ensures)), o .pre .2, length-take-le _ _ (square-fits (a .n) _ (o .pre .3) (c .before .before .before .before .before .before .before .before .before .room .ensures)), length-take-le _ _ (square-fits (a .n) _ (o .pre .3) (c .before .before .before .before .before .before .before .before .room2 .ensures)), length-take-le _ _ (rows-fit (a .n) _ (o .pre .3) (c .before .before .before .before .before .before .before .places .ensures)))
 
 same-length : tie.Need-same-length
 same-length c = c .before .before .before .before .before .before .before .a .given

@@ -10,16 +10,24 @@ unit-requires : tie.Need-unit-requires
 unit-requires c κs = c .before .before .before .before .before .before .before .pre .2
 
 run-requires : tie.Need-run-requires
-run-requires c κs = (c .before .before .before .before .before .before .before .before .before .before .before .before .before .before .pre .0, c .before .before .before .before .before .v .given ∙ c .before .before .before .before .before .before .before .before .before .before .before .before .before .before .pre .2, c .before .before .before .before .before .before .before .before .before .before .before .before .before .before .pre .4, c .before .before .before .before .before .before .before .before .before .before .before .before .before .before .pre .5, c .before .before .before .before .before .before .before .before .before .before .before .before .before .before .pre .3)
+run-requires c κs =
+    let o = c .before .before .before .before .before .before .before .before .before .before .before .before .before .before in
+    (o .pre .0, c .before .before .before .before .before .v .given ∙ o .pre .2, o .pre .4, o .pre .5, o .pre .3)
 
 slice-relend-prefix-arrange : tie.Need-slice-relend-prefix-arrange
-slice-relend-prefix-arrange c = square-holds (c .before .before .before .before .before .before .before .before .before .before .before .before .before .before .before .before .before .before .before .before .before .before .before .before .before .before .before .args .n) _ (c .before .before .before .before .before .before .before .before .before .before .before .before .before .before .before .before .before .before .before .before .before .before .before .before .before .before .before .pre .3) (c .before .before .before .before .before .sizes .given ∙ c .before .before .before .before .before .before .before .before .before .before .before .before .before .before .before .before .before .before .before .before .before .before .before .before .before .before .before .pre .5)
+slice-relend-prefix-arrange c =
+    let o = c .before .before .before .before .before .before .before .before .before .before .before .before .before .before .before .before .before .before .before .before .before .before .before .before .before .before .before in
+    square-holds (o .args .n) _ (o .pre .3) (c .before .before .before .before .before .sizes .given ∙ o .pre .5)
 
 slice-aggregate-arrange : tie.Need-slice-aggregate-arrange
-slice-aggregate-arrange c = sym (length-take-le _ _ (square-holds (c .before .before .before .before .before .before .before .before .before .before .before .before .before .before .before .before .before .before .before .before .before .before .before .before .before .before .before .before .args .n) _ (c .before .before .before .before .before .before .before .before .before .before .before .before .before .before .before .before .before .before .before .before .before .before .before .before .before .before .before .before .pre .3) (c .before .before .before .before .before .before .sizes .given ∙ c .before .before .before .before .before .before .before .before .before .before .before .before .before .before .before .before .before .before .before .before .before .before .before .before .before .before .before .before .pre .5)))
+slice-aggregate-arrange c =
+    let o = c .before .before .before .before .before .before .before .before .before .before .before .before .before .before .before .before .before .before .before .before .before .before .before .before .before .before .before .before in
+    sym (length-take-le _ _ (square-holds (o .args .n) _ (o .pre .3) (c .before .before .before .before .before .before .sizes .given ∙ o .pre .5)))
 
 arrange-requires : tie.Need-arrange-requires
-arrange-requires c κs = (c .before .before .before .before .before .before .before .before .before .before .before .before .before .a .given ∙ c .before .before .before .before .before .before .before .before .before .before .before .before .before .before .before .before .before .before .before .before .before .before .before .before .before .before .before .before .before .pre .0, c .before .before .before .before .before .before .before .before .before .before .before .v2 .given ∙ c .before .before .before .before .before .before .before .before .before .before .before .before .before .before .before .before .before .before .before .before .v .given ∙ c .before .before .before .before .before .before .before .before .before .before .before .before .before .before .before .before .before .before .before .before .before .before .before .before .before .before .before .before .before .pre .2, c .before .before .before .before .before .before .before .before .before .before .before .before .before .before .before .before .before .before .before .before .before .before .before .before .before .before .before .before .before .pre .1, length-take-le _ _ (square-holds (c .before .before .before .before .before .before .before .before .before .before .before .before .before .before .before .before .before .before .before .before .before .before .before .before .before .before .before .before .before .args .n) _ (c .before .before .before .before .before .before .before .before .before .before .before .before .before .before .before .before .before .before .before .before .before .before .before .before .before .before .before .before .before .pre .3) (c .before .before .before .before .before .before .before .sizes .given ∙ c .before .before .before .before .before .before .before .before .before .before .before .before .before .before .before .before .before .before .before .before .before .before .before .before .before .before .before .before .before .pre .5)), c .before .before .before .before .before .before .before .before .before .before .before .before .before .before .before .before .before .before .before .before .before .before .before .before .before .before .before .before .before .pre .6)
+arrange-requires c κs =
+    let o = c .before .before .before .before .before .before .before .before .before .before .before .before .before .before .before .before .before .before .before .before .before .before .before .before .before .before .before .before .before in
+    (c .before .before .before .before .before .before .before .before .before .before .before .before .before .a .given ∙ o .pre .0, c .before .before .before .before .before .before .before .before .before .before .before .v2 .given ∙ c .before .before .before .before .before .before .before .before .before .before .before .before .before .before .before .before .before .before .before .before .v .given ∙ o .pre .2, o .pre .1, length-take-le _ _ (square-holds (o .args .n) _ (o .pre .3) (c .before .before .before .before .before .before .before .sizes .given ∙ o .pre .5)), o .pre .6)
 
 same-length : tie.Need-same-length
 same-length c = c .before .before .before .before .before .before .before .a2 .given ∙ c .before .before .before .before .before .before .before .before .before .before .before .before .before .before .before .before .before .before .before .before .before .before .a .given
@@ -40,7 +48,9 @@ same-length-6 : tie.Need-same-length-6
 same-length-6 c = c .before .order .given
 
 returns : tie.Need-returns
-returns c = spectrum-is _ _ _ _ _ _ _ _ _ _ (c .before .before .before .before .before .before .before .before .before .before .before .before .before .before .before .before .before .before .before .before .before .before .before .before .before .before .before .before .before .before .unit .ensures) (c .before .before .before .before .before .before .before .before .before .before .before .before .before .before .if1 .taken) (c .before .before .before .before .before .before .before .before .before .before .before .before .before .before .before .before .before .before .before .before .before .before .before .run .ensures) (c .before .before .before .before .before .before .before .before .arrange .ensures .0) (c .before .before .before .before .before .before .before .before .arrange .ensures .1)
+returns c =
+    let arrange = c .before .before .before .before .before .before .before .before .arrange .ensures in
+    spectrum-is _ _ _ _ _ _ _ _ _ _ (c .before .before .before .before .before .before .before .before .before .before .before .before .before .before .before .before .before .before .before .before .before .before .before .before .before .before .before .before .before .before .unit .ensures) (c .before .before .before .before .before .before .before .before .before .before .before .before .before .before .if1 .taken) (c .before .before .before .before .before .before .before .before .before .before .before .before .before .before .before .before .before .before .before .before .before .before .before .run .ensures) (arrange .0) (arrange .1)
 
 same-length-7 : tie.Need-same-length-7
 same-length-7 c = c .before .before .before .before .before .before .before .before .a .given

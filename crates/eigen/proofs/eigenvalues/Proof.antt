@@ -32,19 +32,34 @@ matrix-room-requires : tie.Need-matrix-room-requires
 matrix-room-requires c κs = search needs
 
 array-borrow-prefix-m : tie.Need-array-borrow-prefix-m
-array-borrow-prefix-m c = parts-fit (c .before .before .before .before .before .before .args .n) _ (c .before .before .before .before .before .before .pre .3) (c .matrix-room .ensures)
+array-borrow-prefix-m c =
+    let o = c .before .before .before .before .before .before in
+    parts-fit (o .args .n) _ (o .pre .3) (c .matrix-room .ensures)
 
 slice-aggregate-put-row : tie.Need-slice-aggregate-put-row
-slice-aggregate-put-row c = sym (length-take-le _ _ (parts-fit (c .before .before .before .before .before .before .before .args .n) _ (c .before .before .before .before .before .before .before .pre .3) (c .before .matrix-room .ensures)))
+slice-aggregate-put-row c =
+    let o = c .before .before .before .before .before .before .before in
+    sym (length-take-le _ _ (parts-fit (o .args .n) _ (o .pre .3) (c .before .matrix-room .ensures)))
 
 put-row-requires : tie.Need-put-row-requires
-put-row-requires c κs = omega (arith, length-take-le (2 * (c .before .before .before .before .before .before .before .args .n * c .before .before .before .before .before .before .before .args .n)) (c .before .matrix-room .result) (parts-fit (c .before .before .before .before .before .before .before .args .n) _ (c .before .before .before .before .before .before .before .pre .3) (c .before .matrix-room .ensures)), c .before .before .before .before .before .before .before .pre .0)
+put-row-requires c κs =
+    let o = c .before .before .before .before .before .before .before in
+    let a = o .args in
+    omega (arith, length-take-le (2 * (a .n * a .n)) (c .before .matrix-room .result) (parts-fit (a .n) _ (o .pre .3) (c .before .matrix-room .ensures)), o .pre .0)
 
 array-borrow-prefix-m-2 : tie.Need-array-borrow-prefix-m-2
-array-borrow-prefix-m-2 c = copy-fits (2 * (c .before .before .before .before .before .before .before .before .before .args .n * c .before .before .before .before .before .before .before .before .before .args .n)) (c .before .before .before .matrix-room .result) (now (c .before .before .before .before .before .before .before .before .before .args .a)) _ (parts-fit (c .before .before .before .before .before .before .before .before .before .args .n) _ (c .before .before .before .before .before .before .before .before .before .pre .3) (c .before .before .before .matrix-room .ensures)) (c .before .before .before .before .before .before .before .before .before .pre .0) (c .before .put-row .ensures)
+array-borrow-prefix-m-2 c =
+    let o = c .before .before .before .before .before .before .before .before .before in
+    let a = o .args in
+    let matrix-room = c .before .before .before .matrix-room in
+    copy-fits (2 * (a .n * a .n)) (matrix-room .result) (now (a .a)) _ (parts-fit (a .n) _ (o .pre .3) (matrix-room .ensures)) (o .pre .0) (c .before .put-row .ensures)
 
 slice-aggregate-eigenvalues-in : tie.Need-slice-aggregate-eigenvalues-in
-slice-aggregate-eigenvalues-in c = sym (copy-long (2 * (c .before .before .before .before .before .before .before .before .before .before .args .n * c .before .before .before .before .before .before .before .before .before .before .args .n)) (c .before .before .before .before .matrix-room .result) (now (c .before .before .before .before .before .before .before .before .before .before .args .a)) _ (parts-fit (c .before .before .before .before .before .before .before .before .before .before .args .n) _ (c .before .before .before .before .before .before .before .before .before .before .pre .3) (c .before .before .before .before .matrix-room .ensures)) (c .before .before .before .before .before .before .before .before .before .before .pre .0) (c .before .before .put-row .ensures))
+slice-aggregate-eigenvalues-in c =
+    let o = c .before .before .before .before .before .before .before .before .before .before in
+    let a = o .args in
+    let matrix-room = c .before .before .before .before .matrix-room in
+    sym (copy-long (2 * (a .n * a .n)) (matrix-room .result) (now (a .a)) _ (parts-fit (a .n) _ (o .pre .3) (matrix-room .ensures)) (o .pre .0) (c .before .before .put-row .ensures))
 
 array-borrow-prefix-none : tie.Need-array-borrow-prefix-none
 array-borrow-prefix-none c = search needs
@@ -53,33 +68,52 @@ slice-aggregate-eigenvalues-in-2 : tie.Need-slice-aggregate-eigenvalues-in-2
 slice-aggregate-eigenvalues-in-2 c = search needs
 
 array-borrow-prefix-bounds : tie.Need-array-borrow-prefix-bounds
-array-borrow-prefix-bounds c = square-fits (c .before .before .before .before .before .before .before .before .before .before .before .before .args .n) _ (c .before .before .before .before .before .before .before .before .before .before .before .before .pre .3) (c .before .before .before .before .before .before .before .before .before .room .ensures)
+array-borrow-prefix-bounds c =
+    let o = c .before .before .before .before .before .before .before .before .before .before .before .before in
+    square-fits (o .args .n) _ (o .pre .3) (c .before .before .before .before .before .before .before .before .before .room .ensures)
 
 slice-aggregate-eigenvalues-in-3 : tie.Need-slice-aggregate-eigenvalues-in-3
-slice-aggregate-eigenvalues-in-3 c = sym (length-take-le _ _ (square-fits (c .before .before .before .before .before .before .before .before .before .before .before .before .before .args .n) _ (c .before .before .before .before .before .before .before .before .before .before .before .before .before .pre .3) (c .before .before .before .before .before .before .before .before .before .before .room .ensures)))
+slice-aggregate-eigenvalues-in-3 c =
+    let o = c .before .before .before .before .before .before .before .before .before .before .before .before .before in
+    sym (length-take-le _ _ (square-fits (o .args .n) _ (o .pre .3) (c .before .before .before .before .before .before .before .before .before .before .room .ensures)))
 
 array-borrow-prefix-sizes : tie.Need-array-borrow-prefix-sizes
-array-borrow-prefix-sizes c = square-fits (c .before .before .before .before .before .before .before .before .before .before .before .before .before .args .n) _ (c .before .before .before .before .before .before .before .before .before .before .before .before .before .pre .3) (c .before .before .before .before .before .before .before .before .before .room2 .ensures)
+array-borrow-prefix-sizes c =
+    let o = c .before .before .before .before .before .before .before .before .before .before .before .before .before in
+    square-fits (o .args .n) _ (o .pre .3) (c .before .before .before .before .before .before .before .before .before .room2 .ensures)
 
 slice-aggregate-eigenvalues-in-4 : tie.Need-slice-aggregate-eigenvalues-in-4
-slice-aggregate-eigenvalues-in-4 c = sym (length-take-le _ _ (square-fits (c .before .before .before .before .before .before .before .before .before .before .before .before .before .before .args .n) _ (c .before .before .before .before .before .before .before .before .before .before .before .before .before .before .pre .3) (c .before .before .before .before .before .before .before .before .before .before .room2 .ensures)))
+slice-aggregate-eigenvalues-in-4 c =
+    let o = c .before .before .before .before .before .before .before .before .before .before .before .before .before .before in
+    sym (length-take-le _ _ (square-fits (o .args .n) _ (o .pre .3) (c .before .before .before .before .before .before .before .before .before .before .room2 .ensures)))
 
 array-borrow-prefix-order : tie.Need-array-borrow-prefix-order
-array-borrow-prefix-order c = rows-fit (c .before .before .before .before .before .before .before .before .before .before .before .before .before .before .args .n) _ (c .before .before .before .before .before .before .before .before .before .before .before .before .before .before .pre .3) (c .before .before .before .before .before .before .before .before .before .places .ensures)
+array-borrow-prefix-order c =
+    let o = c .before .before .before .before .before .before .before .before .before .before .before .before .before .before in
+    rows-fit (o .args .n) _ (o .pre .3) (c .before .before .before .before .before .before .before .before .before .places .ensures)
 
 slice-aggregate-eigenvalues-in-5 : tie.Need-slice-aggregate-eigenvalues-in-5
-slice-aggregate-eigenvalues-in-5 c = sym (length-take-le _ _ (rows-fit (c .before .before .before .before .before .before .before .before .before .before .before .before .before .before .before .args .n) _ (c .before .before .before .before .before .before .before .before .before .before .before .before .before .before .before .pre .3) (c .before .before .before .before .before .before .before .before .before .before .places .ensures)))
+slice-aggregate-eigenvalues-in-5 c =
+    let o = c .before .before .before .before .before .before .before .before .before .before .before .before .before .before .before in
+    sym (length-take-le _ _ (rows-fit (o .args .n) _ (o .pre .3) (c .before .before .before .before .before .before .before .before .before .before .places .ensures)))
 
 eigenvalues-in-requires : tie.Need-eigenvalues-in-requires
-eigenvalues-in-requires c κs = (copy-long (2 * (c .before .before .before .before .before .before .before .before .before .before .before .before .before .before .before .args .n * c .before .before .before .before .before .before .before .before .before .before .before .before .before .before .before .args .n)) (c .before .before .before .before .before .before .before .before .before .matrix-room .result) (now (c .before .before .before .before .before .before .before .before .before .before .before .before .before .before .before .args .a)) _ (parts-fit (c .before .before .before .before .before .before .before .before .before .before .before .before .before .before .before .args .n) _ (c .before .before .before .before .before .before .before .before .before .before .before .before .before .before .before .pre .3) (c .before .before .before .before .before .before .before .before .before .matrix-room .ensures)) (c .before .before .before .before .before .before .before .before .before .before .before .before .before .before .before .pre .0) (c .before .before .before .before .before .before .before .put-row .ensures), c .before .before .before .before .before .before .before .before .before .before .before .before .before .before .before .pre .1, search needs, c .before .before .before .before .before .before .before .before .before .before .before .before .before .before .before .pre .2, length-take-le _ _ (square-fits (c .before .before .before .before .before .before .before .before .before .before .before .before .before .before .before .args .n) _ (c .before .before .before .before .before .before .before .before .before .before .before .before .before .before .before .pre .3) (c .before .before .before .before .before .before .before .before .before .before .before .before .room .ensures)), length-take-le _ _ (square-fits (c .before .before .before .before .before .before .before .before .before .before .before .before .before .before .before .args .n) _ (c .before .before .before .before .before .before .before .before .before .before .before .before .before .before .before .pre .3) (c .before .before .before .before .before .before .before .before .before .before .before .room2 .ensures)), length-take-le _ _ (rows-fit (c .before .before .before .before .before .before .before .before .before .before .before .before .before .before .before .args .n) _ (c .before .before .before .before .before .before .before .before .before .before .before .before .before .before .before .pre .3) (c .before .before .before .before .before .before .before .before .before .before .places .ensures)))
+eigenvalues-in-requires c κs =
+    let o = c .before .before .before .before .before .before .before .before .before .before .before .before .before .before .before in
+    let a = o .args in
+    let matrix-room = c .before .before .before .before .before .before .before .before .before .matrix-room in
+    (copy-long (2 * (a .n * a .n)) (matrix-room .result) (now (a .a)) _ (parts-fit (a .n) _ (o .pre .3) (matrix-room .ensures)) (o .pre .0) (c .before .before .before .before .before .before .before .put-row .ensures), o .pre .1, search needs, o .pre .2, length-take-le _ _ (square-fits (a .n) _ (o .pre .3) (c .before .before .before .before .before .before .before .before .before .before .before .before .room .ensures)), length-take-le _ _ (square-fits (a .n) _ (o .pre .3) (c .before .before .before .before .before .before .before .before .before .before .before .room2 .ensures)), length-take-le _ _ (rows-fit (a .n) _ (o .pre .3) (c .before .before .before .before .before .before .before .before .before .before .places .ensures)))
 
 same-length : tie.Need-same-length
 same-length c = c .before .before .before .before .before .w .given
 
 returns : tie.Need-returns
 returns c =
-    let e = copy-is (2 * (c .before .before .before .before .before .before .before .before .before .before .before .before .before .before .before .before .before .before .before .before .before .before .before .args .n * c .before .before .before .before .before .before .before .before .before .before .before .before .before .before .before .before .before .before .before .before .before .before .before .args .n)) (c .before .before .before .before .before .before .before .before .before .before .before .before .before .before .before .before .before .matrix-room .result) (now (c .before .before .before .before .before .before .before .before .before .before .before .before .before .before .before .before .before .before .before .before .before .before .before .args .a)) _ (parts-fit (c .before .before .before .before .before .before .before .before .before .before .before .before .before .before .before .before .before .before .before .before .before .before .before .args .n) _ (c .before .before .before .before .before .before .before .before .before .before .before .before .before .before .before .before .before .before .before .before .before .before .before .pre .3) (c .before .before .before .before .before .before .before .before .before .before .before .before .before .before .before .before .before .matrix-room .ensures)) (c .before .before .before .before .before .before .before .before .before .before .before .before .before .before .before .before .before .before .before .before .before .before .before .pre .0) (c .before .before .before .before .before .before .before .before .before .before .before .before .before .before .before .put-row .ensures) in
-    c .before .before .before .before .before .before .before .eigenvalues-in .ensures ∙ ap (λ (m : List Float). eigenvaluesOf (c .before .before .before .before .before .before .before .before .before .before .before .before .before .before .before .before .before .before .before .before .before .before .before .args .n) (c .before .before .before .before .before .before .before .before .before .before .before .before .before .before .before .before .before .before .before .before .before .before .before .args .tolerance) (c .before .before .before .before .before .before .before .before .before .before .before .before .before .before .before .before .before .before .before .before .before .before .before .args .rotations) (entries m)) e
+    let o = c .before .before .before .before .before .before .before .before .before .before .before .before .before .before .before .before .before .before .before .before .before .before .before in
+    let a = o .args in
+    let matrix-room = c .before .before .before .before .before .before .before .before .before .before .before .before .before .before .before .before .before .matrix-room in
+    let e = copy-is (2 * (a .n * a .n)) (matrix-room .result) (now (a .a)) _ (parts-fit (a .n) _ (o .pre .3) (matrix-room .ensures)) (o .pre .0) (c .before .before .before .before .before .before .before .before .before .before .before .before .before .before .before .put-row .ensures) in
+    c .before .before .before .before .before .before .before .eigenvalues-in .ensures ∙ ap (λ (m : List Float). eigenvaluesOf (a .n) (a .tolerance) (a .rotations) (entries m)) e
 
 pub eigenvalues-spec : {M : Type 1} → statement M
 eigenvalues-spec =

@@ -7,16 +7,24 @@ use Rattle.eigen.proofs.eigenvalues_in.Statement.{statement}
 use Rattle.eigen.proofs.eigenvalues_in.Tie as tie
 
 run-requires : tie.Need-run-requires
-run-requires c κs = (c .before .before .before .before .before .before .before .before .before .before .pre .0, search needs, c .before .before .before .before .before .before .before .before .before .before .pre .4, c .before .before .before .before .before .before .before .before .before .before .pre .5, c .before .before .before .before .before .before .before .before .before .before .pre .3)
+run-requires c κs =
+    let o = c .before .before .before .before .before .before .before .before .before .before in
+    (o .pre .0, search needs, o .pre .4, o .pre .5, o .pre .3)
 
 slice-relend-prefix-ascend : tie.Need-slice-relend-prefix-ascend
-slice-relend-prefix-ascend c = square-holds (c .before .before .before .before .before .before .before .before .before .before .before .before .before .before .before .before .before .before .before .before .before .args .n) _ (c .before .before .before .before .before .before .before .before .before .before .before .before .before .before .before .before .before .before .before .before .before .pre .3) (c .before .before .before .sizes .given ∙ c .before .before .before .before .before .before .before .before .before .before .before .before .before .before .before .before .before .before .before .before .before .pre .5)
+slice-relend-prefix-ascend c =
+    let o = c .before .before .before .before .before .before .before .before .before .before .before .before .before .before .before .before .before .before .before .before .before in
+    square-holds (o .args .n) _ (o .pre .3) (c .before .before .before .sizes .given ∙ o .pre .5)
 
 slice-aggregate-ascend : tie.Need-slice-aggregate-ascend
-slice-aggregate-ascend c = sym (length-take-le _ _ (square-holds (c .before .before .before .before .before .before .before .before .before .before .before .before .before .before .before .before .before .before .before .before .before .before .args .n) _ (c .before .before .before .before .before .before .before .before .before .before .before .before .before .before .before .before .before .before .before .before .before .before .pre .3) (c .before .before .before .before .sizes .given ∙ c .before .before .before .before .before .before .before .before .before .before .before .before .before .before .before .before .before .before .before .before .before .before .pre .5)))
+slice-aggregate-ascend c =
+    let o = c .before .before .before .before .before .before .before .before .before .before .before .before .before .before .before .before .before .before .before .before .before .before in
+    sym (length-take-le _ _ (square-holds (o .args .n) _ (o .pre .3) (c .before .before .before .before .sizes .given ∙ o .pre .5)))
 
 ascend-requires : tie.Need-ascend-requires
-ascend-requires c κs = (c .before .before .before .before .before .before .before .before .before .before .before .before .a .given ∙ c .before .before .before .before .before .before .before .before .before .before .before .before .before .before .before .before .before .before .before .before .before .before .before .before .pre .0, length-take-le _ _ (square-holds (c .before .before .before .before .before .before .before .before .before .before .before .before .before .before .before .before .before .before .before .before .before .before .before .before .args .n) _ (c .before .before .before .before .before .before .before .before .before .before .before .before .before .before .before .before .before .before .before .before .before .before .before .before .pre .3) (c .before .before .before .before .before .before .sizes .given ∙ c .before .before .before .before .before .before .before .before .before .before .before .before .before .before .before .before .before .before .before .before .before .before .before .before .pre .5)), c .before .before .before .before .before .before .before .before .before .before .before .before .before .before .before .before .before .before .before .before .before .before .before .before .pre .6, c .before .before .before .before .before .before .before .before .before .before .before .before .before .before .before .before .before .before .before .before .before .before .before .before .pre .1)
+ascend-requires c κs =
+    let o = c .before .before .before .before .before .before .before .before .before .before .before .before .before .before .before .before .before .before .before .before .before .before .before .before in
+    (c .before .before .before .before .before .before .before .before .before .before .before .before .a .given ∙ o .pre .0, length-take-le _ _ (square-holds (o .args .n) _ (o .pre .3) (c .before .before .before .before .before .before .sizes .given ∙ o .pre .5)), o .pre .6, o .pre .1)
 
 same-length : tie.Need-same-length
 same-length c = c .before .before .before .before .before .before .before .before .before .before .before .before .before .before .before .before .before .before .before .a .given

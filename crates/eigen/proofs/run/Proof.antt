@@ -19,16 +19,22 @@ abbrev μ-loop : tie.MeasureT-loop
 μ-loop a₀ v₀ r n tolerance rotations bounds₀ sizes₀ limit left₀ a v bounds sizes left = left
 
 measure-requires : tie.Need-measure-requires Inv-loop μ-loop
-measure-requires c κs = (c .before .before .before .before .before .before .before .pre .0, c .before .before .before .before .before .before .before .pre .2, c .before .before .before .before .before .before .before .pre .3)
+measure-requires c κs =
+    let o = c .before .before .before .before .before .before .before in
+    (o .pre .0, o .pre .2, o .pre .3)
 
 scale-requires : tie.Need-scale-requires Inv-loop μ-loop
 scale-requires c κs = c .before .before .before .before .before .before .before .before .before .before .before .before .before .pre .0
 
 loop-holds : tie.Need-loop-holds Inv-loop μ-loop
-loop-holds c = (c .before .before .before .before .before .before .before .before .before .before .before .before .before .before .pre .0, c .before .before .before .before .before .before .before .before .before .before .before .before .before .before .pre .1, c .before .before .before .before .before .bounds .given ∙ c .before .before .before .before .before .before .before .before .before .before .before .before .before .before .pre .2, c .before .before .before .sizes .given ∙ c .before .before .before .before .before .before .before .before .before .before .before .before .before .before .pre .3, kept-measured _ _ _ _ (c .before .before .before .before .before .before .before .before .before .before .before .before .before .before .pre .2, c .before .before .before .before .before .before .before .before .before .before .before .before .before .before .pre .3) (c .before .before .before .before .before .before .measure .ensures), refl)
+loop-holds c =
+    let o = c .before .before .before .before .before .before .before .before .before .before .before .before .before .before in
+    (o .pre .0, o .pre .1, c .before .before .before .before .before .bounds .given ∙ o .pre .2, c .before .before .before .sizes .given ∙ o .pre .3, kept-measured _ _ _ _ (o .pre .2, o .pre .3) (c .before .before .before .before .before .before .measure .ensures), refl)
 
 find-requires : tie.Need-find-requires Inv-loop μ-loop
-find-requires c κs = (c .before .before .before .before .loop .inv .0, c .before .before .before .before .loop .inv .2, c .before .before .before .before .loop .inv .3)
+find-requires c κs =
+    let l = c .before .before .before .before .loop .inv in
+    (l .0, l .2, l .3)
 
 same-length : tie.Need-same-length Inv-loop μ-loop
 same-length c = c .before .before .before .before .before .before .before .before .before .before .before .loop .inv .0 ∙ sym (c .before .before .before .before .before .before .before .before .before .before .before .before .before .before .before .before .before .before .before .before .before .before .before .before .before .before .pre .0)
@@ -44,10 +50,17 @@ same-length-4 c = c .before .before .before .sizes2 .given ∙ c .before .before
 
 returns : tie.Need-returns Inv-loop μ-loop
 unfolding ran
-returns c = let h = search-finds _ _ _ _ _ _ (c .before .before .before .before .before .before .before .before .before .before .before .loop .inv .2, c .before .before .before .before .before .before .before .before .before .before .before .loop .inv .3) (c .before .before .before .before .before .before .before .before .before .before .before .loop .inv .4) (c .before .before .before .before .before .before .find .ensures) in by-scale _ _ _ _ _ _ _ _ (c .before .before .before .before .before .before .before .before .before .before .before .before .scale .ensures) (run-done _ _ _ _ _ _ _ (c .before .before .before .before .before .before .before .before .before .before .loop-test .taken) (h .0) (c .if1 .taken) ∙ c .before .before .before .before .before .before .before .before .before .before .before .loop .inv .5)
+returns c =
+    let l = c .before .before .before .before .before .before .before .before .before .before .before .loop .inv in
+    let h = search-finds _ _ _ _ _ _ (l .2, l .3) (l .4) (c .before .before .before .before .before .before .find .ensures) in
+    by-scale _ _ _ _ _ _ _ _ (c .before .before .before .before .before .before .before .before .before .before .before .before .scale .ensures) (run-done _ _ _ _ _ _ _ (c .before .before .before .before .before .before .before .before .before .before .loop-test .taken) (h .0) (c .if1 .taken) ∙ l .5)
 
 step-requires : tie.Need-step-requires Inv-loop μ-loop
-step-requires c κs = let w = search-within (c .before .before .before .before .before .before .before .before .before .before .before .before .before .before .before .before .before .before .before .before .before .before .before .before .before .before .before .before .before .before .args .n) (entries (c .before .before .before .before .before .before .before .before .before .before .before .before .before .before .before .loop .a)) (notes (c .before .before .before .before .before .before .before .before .before .before .before .before .before .before .before .loop .bounds) (c .before .before .before .before .before .before .before .before .before .before .before .before .before .before .before .loop .sizes)) _ _ _ (c .before .before .before .before .before .before .before .before .before .before .before .before .before .before .before .before .before .before .before .before .before .before .before .before .before .before .before .before .before .before .pre .4) (c .before .before .before .before .before .before .before .before .before .before .before .before .before .before .before .loop .inv .2, c .before .before .before .before .before .before .before .before .before .before .before .before .before .before .before .loop .inv .3) (c .before .before .before .before .before .before .before .before .before .before .before .before .before .before .before .loop .inv .4) (c .before .before .before .before .before .before .before .before .before .before .find .ensures) in (c .before .before .before .before .before .before .before .before .before .before .before .before .before .before .before .loop .inv .0, c .before .before .before .before .before .before .before .before .before .before .before .before .before .before .before .loop .inv .1, c .before .before .before .before .before .before .before .before .before .bounds2 .given ∙ c .before .before .before .before .before .before .before .before .before .before .before .before .before .before .before .loop .inv .2, c .before .before .before .before .before .before .before .sizes2 .given ∙ c .before .before .before .before .before .before .before .before .before .before .before .before .before .before .before .loop .inv .3, w .0, w .1)
+step-requires c κs =
+    let o = c .before .before .before .before .before .before .before .before .before .before .before .before .before .before .before .before .before .before .before .before .before .before .before .before .before .before .before .before .before .before in
+    let l = c .before .before .before .before .before .before .before .before .before .before .before .before .before .before .before .loop in
+    let w = search-within (o .args .n) (entries (l .a)) (notes (l .bounds) (l .sizes)) _ _ _ (o .pre .4) (l .inv .2, l .inv .3) (l .inv .4) (c .before .before .before .before .before .before .before .before .before .before .find .ensures) in
+    (l .inv .0, l .inv .1, c .before .before .before .before .before .before .before .before .before .bounds2 .given ∙ l .inv .2, c .before .before .before .before .before .before .before .sizes2 .given ∙ l .inv .3, w .0, w .1)
 
 sub-left : tie.Need-sub-left Inv-loop μ-loop
 sub-left c = c .before .before .before .before .before .before .before .before .before .before .before .before .before .before .before .before .before .before .before .before .before .before .before .loop-test .taken
@@ -56,7 +69,14 @@ loop-less : tie.Need-loop-less Inv-loop μ-loop
 loop-less c = falls-down (c .before .before .before .before .before .before .before .before .before .before .before .before .before .before .before .before .before .before .before .before .before .before .before .before .loop .left) (c .before .before .before .before .before .before .before .before .before .before .before .before .before .before .before .before .before .before .before .before .before .before .before .loop-test .taken)
 
 loop-again : tie.Need-loop-again Inv-loop μ-loop
-loop-again c = let t = search-turned (c .before .before .before .before .before .before .before .before .before .before .before .before .before .before .before .before .before .before .before .before .before .before .before .before .before .before .before .before .before .before .before .before .before .before .before .before .before .before .before .args .r) (c .before .before .before .before .before .before .before .before .before .before .before .before .before .before .before .before .before .before .before .before .before .before .before .before .before .before .before .before .before .before .before .before .before .before .before .before .before .before .before .args .n) _ (c .before .before .before .before .before .before .before .before .before .before .before .before .before .before .before .before .before .before .before .before .before .before .before .before .loop .left) (entries (c .before .before .before .before .before .before .before .before .before .before .before .before .before .before .before .before .before .before .before .before .before .before .before .before .loop .a)) (entries (c .before .before .before .before .before .before .before .before .before .before .before .before .before .before .before .before .before .before .before .before .before .before .before .before .loop .v)) (notes (c .before .before .before .before .before .before .before .before .before .before .before .before .before .before .before .before .before .before .before .before .before .before .before .before .loop .bounds) (c .before .before .before .before .before .before .before .before .before .before .before .before .before .before .before .before .before .before .before .before .before .before .before .before .loop .sizes)) _ _ _ _ _ _ _ (c .before .before .before .before .before .before .before .before .before .before .before .before .before .before .before .before .before .before .before .before .before .before .before .before .before .before .before .before .before .before .before .before .before .before .before .before .before .before .before .pre .4) (c .before .before .before .before .before .before .before .before .before .before .before .before .before .before .before .before .before .before .before .before .before .before .before .before .loop .inv .2, c .before .before .before .before .before .before .before .before .before .before .before .before .before .before .before .before .before .before .before .before .before .before .before .before .loop .inv .3) (c .before .before .before .before .before .before .before .before .before .before .before .before .before .before .before .before .before .before .before .before .before .before .before .before .loop .inv .4) (c .before .before .before .before .before .before .before .before .before .before .before .before .before .before .before .before .before .before .before .find .ensures) (c .before .before .before .before .before .before .before .before .before .before .before .before .before .before .before .before .before .before .bounds2 .given ∙ c .before .before .before .before .before .before .before .before .before .before .before .before .before .before .before .before .before .before .before .before .before .before .before .before .loop .inv .2, c .before .before .before .before .before .before .before .before .before .before .before .before .before .before .before .before .sizes2 .given ∙ c .before .before .before .before .before .before .before .before .before .before .before .before .before .before .before .before .before .before .before .before .before .before .before .before .loop .inv .3) (c .before .before .before .before .before .before .before .before .before .before .before .before .before .before .before .before .before .before .before .before .before .before .before .loop-test .taken) (c .before .before .before .before .before .before .before .before .before .before .before .before .before .if1 .left) (c .before .before .before .before .before .before .before .before .step .ensures) (c .before .before .before .before .before .before .before .before .before .before .before .before .before .before .before .before .before .before .before .before .before .before .before .before .loop .inv .5) in (c .before .before .before .before .before .before .before .a .given ∙ c .before .before .before .before .before .before .before .before .before .before .before .before .before .before .before .before .before .before .before .before .before .before .before .before .loop .inv .0, c .before .before .before .before .before .v .given ∙ c .before .before .before .before .before .before .before .before .before .before .before .before .before .before .before .before .before .before .before .before .before .before .before .before .loop .inv .1, c .before .before .before .bounds3 .given ∙ c .before .before .before .before .before .before .before .before .before .before .before .before .before .before .before .before .before .before .bounds2 .given ∙ c .before .before .before .before .before .before .before .before .before .before .before .before .before .before .before .before .before .before .before .before .before .before .before .before .loop .inv .2, c .before .sizes3 .given ∙ c .before .before .before .before .before .before .before .before .before .before .before .before .before .before .before .before .sizes2 .given ∙ c .before .before .before .before .before .before .before .before .before .before .before .before .before .before .before .before .before .before .before .before .before .before .before .before .loop .inv .3, t .0, t .1)
+loop-again c =
+    let o = c .before .before .before .before .before .before .before .before .before .before .before .before .before .before .before .before .before .before .before .before .before .before .before .before .before .before .before .before .before .before .before .before .before .before .before .before .before .before .before in
+    let a = o .args in
+    let l = c .before .before .before .before .before .before .before .before .before .before .before .before .before .before .before .before .before .before .before .before .before .before .before .before .loop in
+    let bounds2 = c .before .before .before .before .before .before .before .before .before .before .before .before .before .before .before .before .before .before .bounds2 .given in
+    let sizes2 = c .before .before .before .before .before .before .before .before .before .before .before .before .before .before .before .before .sizes2 .given in
+    let t = search-turned (a .r) (a .n) _ (l .left) (entries (l .a)) (entries (l .v)) (notes (l .bounds) (l .sizes)) _ _ _ _ _ _ _ (o .pre .4) (l .inv .2, l .inv .3) (l .inv .4) (c .before .before .before .before .before .before .before .before .before .before .before .before .before .before .before .before .before .before .before .find .ensures) (bounds2 ∙ l .inv .2, sizes2 ∙ l .inv .3) (c .before .before .before .before .before .before .before .before .before .before .before .before .before .before .before .before .before .before .before .before .before .before .before .loop-test .taken) (c .before .before .before .before .before .before .before .before .before .before .before .before .before .if1 .left) (c .before .before .before .before .before .before .before .before .step .ensures) (l .inv .5) in
+    (c .before .before .before .before .before .before .before .a .given ∙ l .inv .0, c .before .before .before .before .before .v .given ∙ l .inv .1, c .before .before .before .bounds3 .given ∙ bounds2 ∙ l .inv .2, c .before .sizes3 .given ∙ sizes2 ∙ l .inv .3, t .0, t .1)
 
 same-length-5 : tie.Need-same-length-5 Inv-loop μ-loop
 same-length-5 c = c .before .loop .inv .0 ∙ sym (c .before .before .before .before .before .before .before .before .before .before .before .before .before .before .before .before .pre .0)

@@ -5,19 +5,29 @@ use Rattle.eigen.proofs.step.Statement.{statement}
 use Rattle.eigen.proofs.step.Tie as tie
 
 turn-of-requires : tie.Need-turn-of-requires
-turn-of-requires c κs = (c .before .before .before .before .before .pre .0, c .before .before .before .before .before .pre .4, c .before .before .before .before .before .pre .5)
+turn-of-requires c κs =
+    let o = c .before .before .before .before .before in
+    (o .pre .0, o .pre .4, o .pre .5)
 
 rotate-requires : tie.Need-rotate-requires
-rotate-requires c κs = let h = turn-place _ _ _ _ (c .before .turn-of .ensures) (c .before .before .before .before .before .before .before .pre .4) (c .before .before .before .before .before .before .before .pre .5) in (c .before .before .before .before .before .before .before .pre .0, h .0, h .1)
+rotate-requires c κs =
+    let o = c .before .before .before .before .before .before .before in
+    let h = turn-place _ _ _ _ (c .before .turn-of .ensures) (o .pre .4) (o .pre .5) in (o .pre .0, h .0, h .1)
 
 turn-columns-requires : tie.Need-turn-columns-requires
-turn-columns-requires c κs = let h = turn-place _ _ _ _ (c .before .before .before .before .before .turn-of .ensures) (c .before .before .before .before .before .before .before .before .before .before .before .pre .4) (c .before .before .before .before .before .before .before .before .before .before .before .pre .5) in (c .before .before .before .before .before .before .before .before .before .before .before .pre .1, h .0, h .1)
+turn-columns-requires c κs =
+    let o = c .before .before .before .before .before .before .before .before .before .before .before in
+    let h = turn-place _ _ _ _ (c .before .before .before .before .before .turn-of .ensures) (o .pre .4) (o .pre .5) in (o .pre .1, h .0, h .1)
 
 renote-requires : tie.Need-renote-requires
-renote-requires c κs = (c .before .before .before .before .before .before .before .before .a .given ∙ c .before .before .before .before .before .before .before .before .before .before .before .before .before .before .before .before .before .pre .0, c .before .before .before .before .before .before .before .before .before .before .before .before .before .before .before .before .before .pre .2, c .before .before .before .before .before .before .before .before .before .before .before .before .before .before .before .before .before .pre .3, c .before .before .before .before .before .before .before .before .before .before .before .before .before .before .before .before .before .pre .4)
+renote-requires c κs =
+    let o = c .before .before .before .before .before .before .before .before .before .before .before .before .before .before .before .before .before in
+    (c .before .before .before .before .before .before .before .before .a .given ∙ o .pre .0, o .pre .2, o .pre .3, o .pre .4)
 
 renote-requires-2 : tie.Need-renote-requires-2
-renote-requires-2 c κs = (c .before .before .before .before .before .before .before .before .before .before .before .before .before .before .before .before .a .given ∙ c .before .before .before .before .before .before .before .before .before .before .before .before .before .before .before .before .before .before .before .before .before .before .before .before .before .pre .0, c .before .before .before .before .before .before .bounds .given ∙ c .before .before .before .before .before .before .before .before .before .before .before .before .before .before .before .before .before .before .before .before .before .before .before .before .before .pre .2, c .before .before .before .before .sizes .given ∙ c .before .before .before .before .before .before .before .before .before .before .before .before .before .before .before .before .before .before .before .before .before .before .before .before .before .pre .3, c .before .before .before .before .before .before .before .before .before .before .before .before .before .before .before .before .before .before .before .before .before .before .before .before .before .pre .5)
+renote-requires-2 c κs =
+    let o = c .before .before .before .before .before .before .before .before .before .before .before .before .before .before .before .before .before .before .before .before .before .before .before .before .before in
+    (c .before .before .before .before .before .before .before .before .before .before .before .before .before .before .before .before .a .given ∙ o .pre .0, c .before .before .before .before .before .before .bounds .given ∙ o .pre .2, c .before .before .before .before .sizes .given ∙ o .pre .3, o .pre .5)
 
 same-length : tie.Need-same-length
 same-length c = c .before .before .before .before .before .before .before .before .before .before .before .before .before .before .before .before .before .before .before .before .before .a .given

@@ -27,7 +27,10 @@ unit-at-requires : tie.Need-unit-at-requires Inv-loop μ-loop
 unit-at-requires c κs = search needs
 
 write-requires : tie.Need-write-requires Inv-loop μ-loop
-write-requires c κs = omega (arith, entry-fits (c .before .before .before .before .before .args .i) (c .before .before .before .loop .j) (c .before .before .before .before .before .args .n) (c .before .before .before .before .before .args .n) (c .before .before .before .before .before .pre .1) (c .before .before .loop-test .taken))
+write-requires c κs =
+    let o = c .before .before .before .before .before in
+    let a = o .args in
+    omega (arith, entry-fits (a .i) (c .before .before .before .loop .j) (a .n) (a .n) (o .pre .1) (c .before .before .loop-test .taken))
 
 add-j : tie.Need-add-j Inv-loop μ-loop
 add-j c = search needs
@@ -36,7 +39,11 @@ loop-less : tie.Need-loop-less Inv-loop μ-loop
 loop-less c = search needs
 
 loop-again : tie.Need-loop-again Inv-loop μ-loop
-loop-again c = (search needs, search needs, fold-more _ _ _ _ _ (c .before .before .before .before .before .before .loop .inv .2) (put-laid (c .before .before .before .before .before .before .before .before .args .n) unitAt (c .before .before .before .before .before .before .before .before .args .i) (c .before .before .before .before .before .before .loop .j) (entries (c .before .before .before .before .before .before .loop .v)) _ _ (c .before .before .write .ensures) (c .before .before .before .unit-at .ensures)))
+loop-again c =
+    let o = c .before .before .before .before .before .before .before .before in
+    let a = o .args in
+    let l = c .before .before .before .before .before .before .loop in
+    (search needs, search needs, fold-more _ _ _ _ _ (l .inv .2) (put-laid (a .n) unitAt (a .i) (l .j) (entries (l .v)) _ _ (c .before .before .write .ensures) (c .before .before .before .unit-at .ensures)))
 
 same-length : tie.Need-same-length Inv-loop μ-loop
 same-length c = search needs

@@ -50,8 +50,9 @@ same-length-4 c = search needs
 
 returns-4 : tie.Need-returns-4
 returns-4 c =
-    let k = c .before .before .before .before .before .before .before .before .args .k in
-    let e : k / 4 * 4 ≡ 12 = omega (arith, c .before .before .before .before .if3 .left, c .before .before .before .before .before .before .before .before .pre .2) in
+    let o = c .before .before .before .before .before .before .before .before in
+    let k = o .args .k in
+    let e : k / 4 * 4 ≡ 12 = omega (arith, c .before .before .before .before .if3 .left, o .pre .2) in
     rw e (c .before .before .clear-by4 .ensures)
 
 pub clear-wide-spec : {M : Type 1} → statement M

@@ -48,7 +48,10 @@ same-length : tie.Need-same-length Inv-loop μ-loop
 same-length c = search needs
 
 returns : tie.Need-returns Inv-loop μ-loop
-returns c = copy-end nan (c .before .before .args .start) (c .before .before .args .w) _ (now (c .before .before .args .from)) _ _ (search needs) (omega arith) (c .before .loop .inv .2)
+returns c =
+    let o = c .before .before in
+    let a = o .args in
+    copy-end nan (a .start) (a .w) _ (now (a .from)) _ _ (search needs) (omega arith) (c .before .loop .inv .2)
 
 pub copy-row-spec : {M : Type 1} → statement M
 copy-row-spec =

@@ -21,7 +21,10 @@ loop-holds : tie.Need-loop-holds Inv-loop μ-loop
 loop-holds c = (search needs, search needs, fold-none _ _)
 
 eliminate-row-requires : tie.Need-eliminate-row-requires Inv-loop μ-loop
-eliminate-row-requires c κs = (search needs, search needs, search needs, row-fits (c .before .before .loop .i) (c .before .before .before .before .before .args .n) (c .before .before .before .before .before .args .w) _ (c .before .loop-test .taken) (search needs))
+eliminate-row-requires c κs =
+    let o = c .before .before .before .before .before in
+    let a = o .args in
+    (search needs, search needs, search needs, row-fits (c .before .before .loop .i) (a .n) (a .w) _ (c .before .loop-test .taken) (search needs))
 
 add-i : tie.Need-add-i Inv-loop μ-loop
 add-i c = search needs

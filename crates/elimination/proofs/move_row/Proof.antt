@@ -1,12 +1,17 @@
 -- `elimination::move_row` meets its contract. Assumes nothing.
 use Prim.Native.Nat.{_+_, _*_}
-use mathlib.Core.Path.{refl}
+use mathlib.Core.Path.{refl, sym}
 use denote.Ref.{now}
-use Rattle.lists.proofs.Parts.{put-back, copied}
+use Rattle.lists.proofs.Parts.{put-back, put-same, copied}
 use Rattle.elimination.specs.Rows.{rowOf}
 use borrow.Author.Needs.{needs}
 use Rattle.elimination.proofs.move_row.Statement.{statement}
 use Rattle.elimination.proofs.move_row.Tie as tie
+
+returns : tie.Need-returns
+returns c =
+    let a = c .before .before .args in
+    sym (rw (c .if1 .taken) (put-same (a .k * a .w) (a .w) (now (a .work))))
 
 mul-copy-row : tie.Need-mul-copy-row
 mul-copy-row c = search needs
@@ -44,13 +49,18 @@ put-row-requires c κs = search needs
 same-length : tie.Need-same-length
 same-length c = search needs
 
-returns : tie.Need-returns
-returns c = put-back (c .before .before .before .before .before .before .before .before .before .before .args .p * c .before .before .before .before .before .before .before .before .before .before .args .w) (c .before .before .before .before .before .before .before .before .before .before .args .p * c .before .before .before .before .before .before .before .before .before .before .args .w + c .before .before .before .before .before .before .before .before .before .before .args .w) (c .before .before .before .before .before .before .before .before .before .before .args .w) (rowOf (c .before .before .before .before .before .before .before .before .before .before .args .w) (c .before .before .before .before .before .before .before .before .before .before .args .k) (now (c .before .before .before .before .before .before .before .before .before .before .args .work))) _ (now (c .before .before .before .before .before .before .before .before .before .before .args .work)) _ refl (c .before .before .before .before .before .before .before .before .before .before .pre .2) (copied (c .before .before .before .before .before .before .before .before .before .before .args .k * c .before .before .before .before .before .before .before .before .before .before .args .w) (c .before .before .before .before .before .before .before .before .before .before .args .w) (now (c .before .before .before .before .before .before .before .before .before .before .args .work)) _ _ (c .before .before .before .before .before .before .before .before .before .before .pre .1) (c .before .before .before .before .before .before .copy-row .ensures)) (c .before .before .put-row .ensures)
+returns-2 : tie.Need-returns-2
+returns-2 c =
+    let o = c .before .before .before .before .before .before .before .before .before .before .before in
+    let a = o .args in
+    let row = copied (a .k * a .w) (a .w) (now (a .work)) _ _ (o .pre .1) (c .before .before .before .before .before .before .copy-row .ensures) in
+    put-back (a .p * a .w) (a .p * a .w + a .w) (a .w) (rowOf (a .w) (a .k) (now (a .work))) _ (now (a .work)) _ refl (o .pre .2) row (c .before .before .put-row .ensures)
 
 pub move-row-spec : {M : Type 1} → statement M
 move-row-spec =
     tie.close
     (tie.spec
+    returns
     mul-copy-row
     slice-aggregate-copy-row
     copy-row-requires
@@ -63,4 +73,4 @@ move-row-spec =
     slice-aggregate-put-row
     put-row-requires
     same-length
-    returns)
+    returns-2)

@@ -22,16 +22,23 @@ loop-holds : tie.Need-loop-holds Inv-loop μ-loop
 loop-holds c = (zero-le, refl, refl, refl, refl, refl, refl, refl, slopes-none _ (now (c .before .before .before .before .before .before .before .before .before .before .before .args .g)))
 
 derivative-requires : tie.Need-derivative-requires Inv-loop μ-loop
-derivative-requires c κs = let s = c .before .before .before .before .before .before .before .before .before .before .before .before .before .before .before .before .before .before .before .pre in let v = c .before .before .before .before .before .before .before .loop .inv in (lent-on _ _ (s .0) (v .3) (v .4), lent-on _ _ (s .1) (v .6) (v .7), s .2, v .2 ∙ s .4, v .5 ∙ s .5, turn-of _ _ _ (c .before .before .before .before .before .before .loop-test .taken) (s .2))
+derivative-requires c κs =
+    let s = c .before .before .before .before .before .before .before .before .before .before .before .before .before .before .before .before .before .before .before .pre in
+    let v = c .before .before .before .before .before .before .before .loop .inv in
+    (lent-on _ _ (s .0) (v .3) (v .4), lent-on _ _ (s .1) (v .6) (v .7), s .2, v .2 ∙ s .4, v .5 ∙ s .5, turn-of _ _ _ (c .before .before .before .before .before .before .loop-test .taken) (s .2))
 
 enum-known-d : tie.Need-enum-known-d Inv-loop μ-loop
 enum-known-d c = c .match .keys1
 
 mul-g : tie.Need-mul-g Inv-loop μ-loop
-mul-g c = place-fits _ _ _ (c .before .before .before .before .before .before .before .before .before .before .before .before .before .before .before .before .before .before .before .before .before .before .loop-test .taken) (c .before .before .before .before .before .before .before .before .before .before .before .before .before .before .before .before .before .before .before .before .before .before .before .before .before .before .before .before .before .before .before .before .before .before .before .pre .2) (c .before .before .before .before .before .before .before .before .before .before .before .before .before .before .before .before .before .before .before .before .before .before .before .before .before .before .before .before .before .before .before .before .before .before .before .pre .0 .placed .few)
+mul-g c =
+    let o = c .before .before .before .before .before .before .before .before .before .before .before .before .before .before .before .before .before .before .before .before .before .before .before .before .before .before .before .before .before .before .before .before .before .before .before in
+    place-fits _ _ _ (c .before .before .before .before .before .before .before .before .before .before .before .before .before .before .before .before .before .before .before .before .before .before .loop-test .taken) (o .pre .2) (o .pre .0 .placed .few)
 
 slice-write-g : tie.Need-slice-write-g Inv-loop μ-loop
-slice-write-g c = turn-of _ _ _ (c .before .before .before .before .before .before .before .before .before .before .before .before .before .before .before .before .before .before .before .before .before .before .loop-test .taken) (c .before .before .before .before .before .before .before .before .before .before .before .before .before .before .before .before .before .before .before .before .before .before .before .before .before .before .before .before .before .before .before .before .before .before .before .pre .2 ∙ sym (c .before .before .before .before .before .before .before .before .before .before .before .before .before .before .before .before .before .before .before .before .before .before .before .loop .inv .1 ∙ c .before .before .before .before .before .before .before .before .before .before .before .before .before .before .before .before .before .before .before .before .before .before .before .before .before .before .before .before .before .before .before .before .before .before .before .pre .3))
+slice-write-g c =
+    let o = c .before .before .before .before .before .before .before .before .before .before .before .before .before .before .before .before .before .before .before .before .before .before .before .before .before .before .before .before .before .before .before .before .before .before .before in
+    turn-of _ _ _ (c .before .before .before .before .before .before .before .before .before .before .before .before .before .before .before .before .before .before .before .before .before .before .loop-test .taken) (o .pre .2 ∙ sym (c .before .before .before .before .before .before .before .before .before .before .before .before .before .before .before .before .before .before .before .before .before .before .before .loop .inv .1 ∙ o .pre .3))
 
 enum-known-d-2 : tie.Need-enum-known-d-2 Inv-loop μ-loop
 enum-known-d-2 c = c .match .keys2
@@ -59,16 +66,29 @@ same-length-7 c = c .before .before .before .before .before .before .before .bef
 
 returns : tie.Need-returns Inv-loop μ-loop
 unfolding gradient
-returns c = let l = c .before .before .before .before .before .before .before .before .before .before .before .before .before .before .before .before .before .before .before .before .before .before .before .loop in let s = c .before .before .before .before .before .before .before .before .before .before .before .before .before .before .before .before .before .before .before .before .before .before .before .before .before .before .before .before .before .before .before .before .before .before .before .args in slopes-stop (derivative (jobBy (now (s .card)) (s .h) (now (s .places)) (s .c)) (now (s .xs)) (s .o)) (l .i) (length (now (s .places))) (l .g) _ _ (l .inv .8) (c .before .before .before .before .before .before .before .before .before .before .before .before .before .before .before .derivative .ensures) (c .before .d2 .given .1) (turn-of _ _ _ (c .before .before .before .before .before .before .before .before .before .before .before .before .before .before .before .before .before .before .before .before .before .before .loop-test .taken) (c .before .before .before .before .before .before .before .before .before .before .before .before .before .before .before .before .before .before .before .before .before .before .before .before .before .before .before .before .before .before .before .before .before .before .before .pre .2))
+returns c =
+    let o = c .before .before .before .before .before .before .before .before .before .before .before .before .before .before .before .before .before .before .before .before .before .before .before .before .before .before .before .before .before .before .before .before .before .before .before in
+    let l = c .before .before .before .before .before .before .before .before .before .before .before .before .before .before .before .before .before .before .before .before .before .before .before .loop in
+    let s = o .args in
+    slopes-stop (derivative (jobBy (now (s .card)) (s .h) (now (s .places)) (s .c)) (now (s .xs)) (s .o)) (l .i) (length (now (s .places))) (l .g) _ _ (l .inv .8) (c .before .before .before .before .before .before .before .before .before .before .before .before .before .before .before .derivative .ensures) (c .before .d2 .given .1) (turn-of _ _ _ (c .before .before .before .before .before .before .before .before .before .before .before .before .before .before .before .before .before .before .before .before .before .before .loop-test .taken) (o .pre .2))
 
 add-i : tie.Need-add-i Inv-loop μ-loop
-add-i c = next-fits _ _ _ (c .before .before .before .before .before .before .before .before .before .before .before .before .before .before .before .before .before .before .before .before .before .before .loop-test .taken) (c .before .before .before .before .before .before .before .before .before .before .before .before .before .before .before .before .before .before .before .before .before .before .before .before .before .before .before .before .before .before .before .before .before .before .before .pre .2) (c .before .before .before .before .before .before .before .before .before .before .before .before .before .before .before .before .before .before .before .before .before .before .before .before .before .before .before .before .before .before .before .before .before .before .before .pre .0 .placed .few)
+add-i c =
+    let o = c .before .before .before .before .before .before .before .before .before .before .before .before .before .before .before .before .before .before .before .before .before .before .before .before .before .before .before .before .before .before .before .before .before .before .before in
+    next-fits _ _ _ (c .before .before .before .before .before .before .before .before .before .before .before .before .before .before .before .before .before .before .before .before .before .before .loop-test .taken) (o .pre .2) (o .pre .0 .placed .few)
 
 loop-less : tie.Need-loop-less Inv-loop μ-loop
 loop-less c = add-one-dec _ _ (c .before .before .before .before .before .before .before .before .before .before .before .before .before .before .before .before .before .before .before .before .before .before .loop-test .taken)
 
 loop-again : tie.Need-loop-again Inv-loop μ-loop
-loop-again c = let l = c .before .before .before .before .before .before .before .before .before .before .before .before .before .before .before .before .before .before .before .before .before .before .before .loop in let s = c .before .before .before .before .before .before .before .before .before .before .before .before .before .before .before .before .before .before .before .before .before .before .before .before .before .before .before .before .before .before .before .before .before .before .before .args in let k = c .before .before .before .before .before .before .before .before .before .before .before .before .before .before .before .derivative .kept in (add-one-le (c .before .before .before .before .before .before .before .before .before .before .before .before .before .before .before .before .before .before .before .before .before .before .loop-test .taken), length-set (l .g) (l .i) _ ∙ l .inv .1, k .1 .1 .1 .1 .1 .1 .1 .1 .0 ∙ l .inv .2, k .1 .1 .1 .1 .1 .1 .1 .1 .1 .0 ∙ l .inv .3, k .1 .1 .1 .1 .1 .1 .1 .1 .1 .1 .0 ∙ l .inv .4, k .1 .1 .1 .1 .1 .1 .1 .1 .1 .1 .1 .0 ∙ l .inv .5, k .1 .1 .1 .1 .1 .1 .1 .1 .1 .1 .1 .1 .0 ∙ l .inv .6, k .1 .1 .1 .1 .1 .1 .1 .1 .1 .1 .1 .1 .1 .0 ∙ l .inv .7, slopes-more (derivative (jobBy (now (s .card)) (s .h) (now (s .places)) (s .c)) (now (s .xs)) (s .o)) (l .i) (l .g) _ _ (l .inv .8) (c .before .before .before .before .before .before .before .before .before .before .before .before .before .before .before .derivative .ensures) (c .before .d .given .1) (turn-of _ _ _ (c .before .before .before .before .before .before .before .before .before .before .before .before .before .before .before .before .before .before .before .before .before .before .loop-test .taken) (c .before .before .before .before .before .before .before .before .before .before .before .before .before .before .before .before .before .before .before .before .before .before .before .before .before .before .before .before .before .before .before .before .before .before .before .pre .2 ∙ sym (l .inv .1 ∙ c .before .before .before .before .before .before .before .before .before .before .before .before .before .before .before .before .before .before .before .before .before .before .before .before .before .before .before .before .before .before .before .before .before .before .before .pre .3))))
+loop-again c =
+    let o = c .before .before .before .before .before .before .before .before .before .before .before .before .before .before .before .before .before .before .before .before .before .before .before .before .before .before .before .before .before .before .before .before .before .before .before in
+    let loop-test = c .before .before .before .before .before .before .before .before .before .before .before .before .before .before .before .before .before .before .before .before .before .before .loop-test .taken in
+    let derivative-2 = c .before .before .before .before .before .before .before .before .before .before .before .before .before .before .before .derivative in
+    let l = c .before .before .before .before .before .before .before .before .before .before .before .before .before .before .before .before .before .before .before .before .before .before .before .loop in
+    let s = o .args in
+    let k = derivative-2 .kept in
+    (add-one-le loop-test, length-set (l .g) (l .i) _ ∙ l .inv .1, k .1 .1 .1 .1 .1 .1 .1 .1 .0 ∙ l .inv .2, k .1 .1 .1 .1 .1 .1 .1 .1 .1 .0 ∙ l .inv .3, k .1 .1 .1 .1 .1 .1 .1 .1 .1 .1 .0 ∙ l .inv .4, k .1 .1 .1 .1 .1 .1 .1 .1 .1 .1 .1 .0 ∙ l .inv .5, k .1 .1 .1 .1 .1 .1 .1 .1 .1 .1 .1 .1 .0 ∙ l .inv .6, k .1 .1 .1 .1 .1 .1 .1 .1 .1 .1 .1 .1 .1 .0 ∙ l .inv .7, slopes-more (derivative (jobBy (now (s .card)) (s .h) (now (s .places)) (s .c)) (now (s .xs)) (s .o)) (l .i) (l .g) _ _ (l .inv .8) (derivative-2 .ensures) (c .before .d .given .1) (turn-of _ _ _ loop-test (o .pre .2 ∙ sym (l .inv .1 ∙ o .pre .3))))
 
 same-length-8 : tie.Need-same-length-8 Inv-loop μ-loop
 same-length-8 c = c .before .loop .inv .1
@@ -93,7 +113,11 @@ same-length-14 c = c .before .loop .inv .7
 
 returns-2 : tie.Need-returns-2 Inv-loop μ-loop
 unfolding gradient
-returns-2 c = let l = c .before .loop in let s = c .before .before .before .before .before .before .before .before .before .before .before .before .before .args in slopes-all (derivative (jobBy (now (s .card)) (s .h) (now (s .places)) (s .c)) (now (s .xs)) (s .o)) (l .i) (length (now (s .places))) (l .g) (l .inv .8) (turn-last _ _ _ (c .loop-test .left) (l .inv .0) (c .before .before .before .before .before .before .before .before .before .before .before .before .before .pre .2)) (l .inv .1 ∙ c .before .before .before .before .before .before .before .before .before .before .before .before .before .pre .3)
+returns-2 c =
+    let o = c .before .before .before .before .before .before .before .before .before .before .before .before .before in
+    let l = c .before .loop in
+    let s = o .args in
+    slopes-all (derivative (jobBy (now (s .card)) (s .h) (now (s .places)) (s .c)) (now (s .xs)) (s .o)) (l .i) (length (now (s .places))) (l .g) (l .inv .8) (turn-last _ _ _ (c .loop-test .left) (l .inv .0) (o .pre .2)) (l .inv .1 ∙ o .pre .3)
 
 pub differentiate-spec : {M : Type 1} → statement M
 differentiate-spec =

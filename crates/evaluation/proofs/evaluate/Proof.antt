@@ -20,10 +20,14 @@ fill-requires : tie.Need-fill-requires
 fill-requires c κs = let s = c .before .before .before .before .before .before .before .before .before .pre in (s .0 .placed, s .1, s .0 .model-room)
 
 fit-diagnostics-requires : tie.Need-fit-diagnostics-requires
-fit-diagnostics-requires c κs = let s = c .before .before .before .before .before .before .before .before .before .before .before .before .before .before .pre in (s .0 .placed .shaped, s .0 .placed .sequences, long-enough _ _ _ (c .before .before .before .before .fill .kept .1 .1 .1 .1 .0) (s .0 .model-room), s .0 .columns-room)
+fit-diagnostics-requires c κs =
+    let s = c .before .before .before .before .before .before .before .before .before .before .before .before .before .before .pre in
+    (s .0 .placed .shaped, s .0 .placed .sequences, long-enough _ _ _ (c .before .before .before .before .fill .kept .1 .1 .1 .1 .0) (s .0 .model-room), s .0 .columns-room)
 
 score-requires : tie.Need-score-requires
-score-requires c κs = (c .before .before .before .before .before .before .before .before .before .before .before .before .before .before .before .before .before .pre .0 .anchored, c .before .before .before .before .before .before .before .before .before .before .before .before .before .before .before .before .before .pre .1)
+score-requires c κs =
+    let o = c .before .before .before .before .before .before .before .before .before .before .before .before .before .before .before .before .before in
+    (o .pre .0 .anchored, o .pre .1)
 
 same-length : tie.Need-same-length
 same-length c = c .before .before .before .before .before .before .before .before .fill .kept .1 .1 .1 .1 .0
@@ -32,7 +36,11 @@ same-length-2 : tie.Need-same-length-2
 same-length-2 c = c .before .before .before .fit-diagnostics .kept .1 .1 .1 .1 .1 .0
 
 returns-2 : tie.Need-returns-2
-returns-2 c = let a = c .before .before .before .before .before .before .before .before .before .before .before .before .before .before .before .before .before .before .args in (evaluate-by (now (a .card)) (a .h) (now (a .places)) (a .c) (now (a .xs)) _ _ _ (sym (c .before .before .before .before .before .before .before .before .before .before .before .all-finite .ensures) ∙ not-false _ (c .before .before .before .before .before .before .before .before .before .before .if1 .left)) (c .before .before .before .before .before .before .before .before .fill .ensures) (c .before .before .before .fit-diagnostics .ensures .0) (c .score .ensures), c .before .before .before .before .before .before .before .before .fill .kept .1 .1 .1 .1 .0, c .before .before .before .fit-diagnostics .kept .1 .1 .1 .1 .1 .0)
+returns-2 c =
+    let fill = c .before .before .before .before .before .before .before .before .fill in
+    let fit-diagnostics = c .before .before .before .fit-diagnostics in
+    let a = c .before .before .before .before .before .before .before .before .before .before .before .before .before .before .before .before .before .before .args in
+    (evaluate-by (now (a .card)) (a .h) (now (a .places)) (a .c) (now (a .xs)) _ _ _ (sym (c .before .before .before .before .before .before .before .before .before .before .before .all-finite .ensures) ∙ not-false _ (c .before .before .before .before .before .before .before .before .before .before .if1 .left)) (fill .ensures) (fit-diagnostics .ensures .0) (c .score .ensures), fill .kept .1 .1 .1 .1 .0, fit-diagnostics .kept .1 .1 .1 .1 .1 .0)
 
 pub evaluate-spec : {M : Type 1} → statement M
 evaluate-spec =

@@ -10,7 +10,9 @@ all-finite-requires-2 : tie.Need-all-finite-requires-2
 all-finite-requires-2 c κs = tt
 
 evaluate-finite-requires : tie.Need-evaluate-finite-requires
-evaluate-finite-requires c κs = let s = c .before .before .before .before .before .before .before .before .before .before .before .before .before .before .before .before .before .pre in (s .0, s .1, s .2, s .3, sym (c .before .before .before .before .before .before .before .all-finite .ensures) ∙ c .before .before .before .before .before .before .if1 .taken, sym (c .before .before .before .before .before .all-finite2 .ensures) ∙ c .before .before .before .before .if2 .taken)
+evaluate-finite-requires c κs =
+    let s = c .before .before .before .before .before .before .before .before .before .before .before .before .before .before .before .before .before .pre in
+    (s .0, s .1, s .2, s .3, sym (c .before .before .before .before .before .before .before .all-finite .ensures) ∙ c .before .before .before .before .before .before .if1 .taken, sym (c .before .before .before .before .before .all-finite2 .ensures) ∙ c .before .before .before .before .if2 .taken)
 
 same-length : tie.Need-same-length
 same-length c = c .before .before .before .before .before .before .before .before .evaluate-finite .kept .1 .1 .1 .1 .1 .1 .1 .0
@@ -28,10 +30,14 @@ returns : tie.Need-returns
 returns c = c .before .before .before .before .before .before .before .before .evaluate-finite .ensures
 
 evaluate-requires : tie.Need-evaluate-requires
-evaluate-requires c κs = (c .before .before .before .before .before .before .before .before .before .before .before .before .before .pre .0, c .before .before .before .before .before .before .before .before .before .before .before .before .before .pre .2)
+evaluate-requires c κs =
+    let o = c .before .before .before .before .before .before .before .before .before .before .before .before .before in
+    (o .pre .0, o .pre .2)
 
 evaluate-requires-2 : tie.Need-evaluate-requires-2
-evaluate-requires-2 c κs = (c .before .before .before .before .before .before .before .before .before .before .before .before .before .before .before .before .before .before .before .before .pre .1, c .before .before .before .before .before .before .before .before .before .before .before .before .before .before .before .before .before .before .before .before .pre .3)
+evaluate-requires-2 c κs =
+    let o = c .before .before .before .before .before .before .before .before .before .before .before .before .before .before .before .before .before .before .before .before in
+    (o .pre .1, o .pre .3)
 
 same-length-5 : tie.Need-same-length-5
 same-length-5 c = c .before .before .before .before .before .before .before .before .before .before .before .evaluate .kept .1 .1 .1 .1 .1 .1 .0

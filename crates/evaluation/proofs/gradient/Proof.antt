@@ -7,7 +7,9 @@ use Rattle.evaluation.proofs.gradient.Statement.{statement}
 use Rattle.evaluation.proofs.gradient.Tie as tie
 
 model-numbers-requires : tie.Need-model-numbers-requires
-model-numbers-requires c κs = let l = c .before .before .before .before .before .before .before .before .pre .0 .placed .shaped .limits in (l .dimension, l .effects, l .gates)
+model-numbers-requires c κs =
+    let l = c .before .before .before .before .before .before .before .before .pre .0 .placed .shaped .limits in
+    (l .dimension, l .effects, l .gates)
 
 probe-room-requires : tie.Need-probe-room-requires
 probe-room-requires c κs = tt
@@ -19,10 +21,14 @@ columns-room-requires : tie.Need-columns-room-requires
 columns-room-requires c κs = tt
 
 array-borrow-prefix-left : tie.Need-array-borrow-prefix-left
-array-borrow-prefix-left c = fits-room _ _ _ _ (c .before .before .before .before .before .before .before .before .before .before .before .before .before .before .before .before .pre .1) (c .before .before .before .before .before .before .before .before .before .before .before .before .before .before .before .before .pre .0 .placed .few) (c .before .before .before .before .before .before .probe-room .ensures)
+array-borrow-prefix-left c =
+    let o = c .before .before .before .before .before .before .before .before .before .before .before .before .before .before .before .before in
+    fits-room _ _ _ _ (o .pre .1) (o .pre .0 .placed .few) (c .before .before .before .before .before .before .probe-room .ensures)
 
 slice-aggregate-differentiate : tie.Need-slice-aggregate-differentiate
-slice-aggregate-differentiate c = sym (length-take-le _ _ (fits-room _ _ _ _ (c .before .before .before .before .before .before .before .before .before .before .before .before .before .before .before .before .before .pre .1) (c .before .before .before .before .before .before .before .before .before .before .before .before .before .before .before .before .before .pre .0 .placed .few) (c .before .before .before .before .before .before .before .probe-room .ensures)))
+slice-aggregate-differentiate c =
+    let o = c .before .before .before .before .before .before .before .before .before .before .before .before .before .before .before .before .before in
+    sym (length-take-le _ _ (fits-room _ _ _ _ (o .pre .1) (o .pre .0 .placed .few) (c .before .before .before .before .before .before .before .probe-room .ensures)))
 
 array-borrow-prefix-other : tie.Need-array-borrow-prefix-other
 array-borrow-prefix-other c = fits-room _ _ _ _ refl (c .before .before .before .before .before .before .before .before .model-numbers .ensures .1) (c .before .before .before .before .before .before .model-room .ensures)
@@ -34,7 +40,11 @@ slice-aggregate-differentiate-3 : tie.Need-slice-aggregate-differentiate-3
 slice-aggregate-differentiate-3 c = c .before .before .before .before .before .before .before .columns-room .ensures
 
 differentiate-requires : tie.Need-differentiate-requires
-differentiate-requires c κs = let s = c .before .before .before .before .before .before .before .before .before .before .before .before .before .before .before .before .before .before .before .pre in (s .0, record { placed = s .0 .placed; anchored = s .0 .anchored; model-room = length-take-le _ _ (fits-room _ _ _ _ refl (c .before .before .before .before .before .before .before .before .before .before .model-numbers .ensures .1) (c .before .before .before .before .before .before .before .before .model-room .ensures)) ∙ c .before .before .before .before .before .before .before .before .before .before .model-numbers .ensures .0; columns-room = fits-room _ _ _ _ refl (gates-most (c .before .before .before .before .before .before .before .before .before .before .before .before .before .before .before .before .before .before .before .args .h) (s .0 .placed .shaped .limits)) (c .before .before .before .before .before .before .before .columns-room .ensures) }, s .1, s .2, s .3, length-take-le _ _ (fits-room _ _ _ _ (s .1) (s .0 .placed .few) (c .before .before .before .before .before .before .before .before .before .probe-room .ensures)) ∙ s .1)
+differentiate-requires c κs =
+    let o = c .before .before .before .before .before .before .before .before .before .before .before .before .before .before .before .before .before .before .before in
+    let model-numbers = c .before .before .before .before .before .before .before .before .before .before .model-numbers .ensures in
+    let s = o .pre in
+    (s .0, record { placed = s .0 .placed; anchored = s .0 .anchored; model-room = length-take-le _ _ (fits-room _ _ _ _ refl (model-numbers .1) (c .before .before .before .before .before .before .before .before .model-room .ensures)) ∙ model-numbers .0; columns-room = fits-room _ _ _ _ refl (gates-most (o .args .h) (s .0 .placed .shaped .limits)) (c .before .before .before .before .before .before .before .columns-room .ensures) }, s .1, s .2, s .3, length-take-le _ _ (fits-room _ _ _ _ (s .1) (s .0 .placed .few) (c .before .before .before .before .before .before .before .before .before .probe-room .ensures)) ∙ s .1)
 
 same-length : tie.Need-same-length
 same-length c = c .before .before .before .before .before .before .before .before .before .before .before .differentiate .kept .1 .1 .1 .1 .1 .1 .1 .0
@@ -49,7 +59,10 @@ same-length-4 : tie.Need-same-length-4
 same-length-4 c = c .before .before .before .before .before .before .before .before .before .before .before .differentiate .kept .1 .1 .1 .1 .1 .1 .1 .1 .1 .1 .0
 
 returns : tie.Need-returns
-returns c = let k = c .before .before .before .before .before .before .before .before .before .before .before .differentiate .kept in (c .before .before .before .before .before .before .before .before .before .before .before .differentiate .ensures, k .1 .1 .1 .1 .1 .1 .1 .1 .0, k .1 .1 .1 .1 .1 .1 .1 .1 .1 .0, k .1 .1 .1 .1 .1 .1 .1 .1 .1 .1 .0)
+returns c =
+    let differentiate = c .before .before .before .before .before .before .before .before .before .before .before .differentiate in
+    let k = differentiate .kept in
+    (differentiate .ensures, k .1 .1 .1 .1 .1 .1 .1 .1 .0, k .1 .1 .1 .1 .1 .1 .1 .1 .1 .0, k .1 .1 .1 .1 .1 .1 .1 .1 .1 .1 .0)
 
 pub gradient-spec : {M : Type 1} → statement M
 gradient-spec =

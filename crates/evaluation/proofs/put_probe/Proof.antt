@@ -23,7 +23,9 @@ same-length : tie.Need-same-length
 same-length c = search needs
 
 returns : tie.Need-returns
-returns c = let a = c .before .before .before .before .before .before .args in ap (λ (l : List Float). set l (a .i) (a .v)) (c .before .before .put-row .ensures ∙ take-all (length (now (a .probed))) (now (a .xs)) (omega arith))
+returns c =
+    let a = c .before .before .before .before .before .before .args in
+    ap (λ (l : List Float). set l (a .i) (a .v)) (c .before .before .put-row .ensures ∙ take-all (length (now (a .probed))) (now (a .xs)) (omega arith))
 
 pub put-probe-spec : {M : Type 1} → statement M
 put-probe-spec =

@@ -43,7 +43,10 @@ loop-less : tie.Need-loop-less Inv-loop μ-loop
 loop-less c = add-one-dec _ _ (c .before .before .loop-test .taken)
 
 loop-again : tie.Need-loop-again Inv-loop μ-loop
-loop-again c = (add-one-le (c .before .before .loop-test .taken), length-set (c .before .before .before .loop .out) (c .before .before .before .loop .i) (c .ln-by .result) ∙ c .before .before .before .loop .inv .1, fill-more _ _ _ _ _ (lt-of-lt-of-le (c .before .before .loop-test .taken) (c .before .before .before .before .before .before .pre .1)) (c .before .before .before .loop .inv .2) (c .ln-by .ensures))
+loop-again c =
+    let l = c .before .before .before .loop in
+    let loop-test = c .before .before .loop-test .taken in
+    (add-one-le loop-test, length-set (l .out) (l .i) (c .ln-by .result) ∙ l .inv .1, fill-more _ _ _ _ _ (lt-of-lt-of-le loop-test (c .before .before .before .before .before .before .pre .1)) (l .inv .2) (c .ln-by .ensures))
 
 same-length : tie.Need-same-length Inv-loop μ-loop
 same-length c = c .before .loop .inv .1

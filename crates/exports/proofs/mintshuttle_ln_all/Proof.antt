@@ -25,8 +25,11 @@ same-length c = c .before .out .given
 
 returns : tie.Need-returns
 returns c =
-    let n = c .before .before .before .before .before .before .before .before .shorter .result in
-    record { count = c .before .before .before .before .before .before .before .before .shorter .ensures .0; numbers = c .before .before .logarithms .ensures ∙ ap (λ (f : Float → Float). build n (λ i. f (at (now (c .before .before .before .before .before .before .before .before .before .before .before .args .x)) i)) ++ drop n (now (c .before .before .before .before .before .before .before .before .before .before .before .args .out))) (by-tables _ _ (c .before .before .before .before .before .before .before .tables .ensures)) }
+    let o = c .before .before .before .before .before .before .before .before .before .before .before in
+    let a = o .args in
+    let shorter = c .before .before .before .before .before .before .before .before .shorter in
+    let n = shorter .result in
+    record { count = shorter .ensures .0; numbers = c .before .before .logarithms .ensures ∙ ap (λ (f : Float → Float). build n (λ i. f (at (now (a .x)) i)) ++ drop n (now (a .out))) (by-tables _ _ (c .before .before .before .before .before .before .before .tables .ensures)) }
 
 pub mintshuttle-ln-all-spec : {M : Type 1} → statement M
 mintshuttle-ln-all-spec =

@@ -24,9 +24,10 @@ same-length c = c .before .answer .given
 
 returns-2 : tie.Need-returns-2
 returns-2 c =
+    let put-reading = c .before .before .put-reading .ensures in
     let h = le-leb _ _ (c .before .before .before .before .before .if1 .left) in
     let e = c .before .before .before .before .read .ensures in
-    record { code = c .before .before .put-reading .ensures .0 ∙ ap readingCode e ∙ yes _ h; answer = c .before .before .put-reading .ensures .1 ∙ ap (λ (x : Reading). over (readingWords x) (now (c .before .before .before .before .before .before .before .before .args .answer))) e ∙ yes _ h }
+    record { code = put-reading .0 ∙ ap readingCode e ∙ yes _ h; answer = put-reading .1 ∙ ap (λ (x : Reading). over (readingWords x) (now (c .before .before .before .before .before .before .before .before .args .answer))) e ∙ yes _ h }
 
 pub mintshuttle-read-spec : {M : Type 1} → statement M
 mintshuttle-read-spec =

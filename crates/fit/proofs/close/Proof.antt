@@ -27,8 +27,9 @@ reason-requires c κs = tt
 
 show-requires : tie.Need-show-requires
 show-requires c κs =
+    let slope-at = c .before .before .before .before .before .before .before .before .before .before .before .before .slope-at .kept in
     let s = c .before .before .before .before .before .before .before .before .before .before .before .before .before .before .before .before .before .before .before .before .before .before in
-    (s .pre .0 .placed, c .before .before .before .before .before .before .before .before .before .before .before .before .slope-at .kept .1 .1 .1 .1 .1 .1 .1 .0 ∙ s .pre .0 .model-room, omega (arith, c .before .before .before .before .before .before .before .before .before .before .before .before .slope-at .kept .1 .1 .1 .1 .1 .1 .1 .1 .0, s .pre .0 .columns-room), s .pre .1)
+    (s .pre .0 .placed, slope-at .1 .1 .1 .1 .1 .1 .1 .0 ∙ s .pre .0 .model-room, omega (arith, slope-at .1 .1 .1 .1 .1 .1 .1 .1 .0, s .pre .0 .columns-room), s .pre .1)
 
 enum-known-found-2 : tie.Need-enum-known-found-2
 enum-known-found-2 c = c .match .keys2
@@ -41,9 +42,10 @@ same-length-2 c = c .before .before .before .before .show .kept .1 .1 .1 .1 .1 .
 
 returns : tie.Need-returns
 returns c =
+    let show = c .before .before .before .before .show .ensures in
     let s = c .before .before .before .before .before .before .before .before .before .before .before .before .before .before .before .before .before .before .before .before .before .before .before .before .before .before .before in
     let J = jobBy (now (s .args .card)) (s .args .h) (now (s .args .places)) (s .args .c) in
-    closes J (s .args .initial) (s .args .stop) (pointOf (length (now (s .args .places))) (s .args .r)) _ _ _ _ _ (subst (Sloped J _ _) (c .before .before .before .before .before .before .before .before .before .before .found .given .1) (c .before .before .before .before .before .before .before .before .before .before .before .before .before .before .before .before .before .slope-at .ensures .0)) (c .before .before .before .before .before .before .before .reason .ensures) (c .before .before .before .before .show .ensures .0) (c .before .before .before .before .show .ensures .1)
+    closes J (s .args .initial) (s .args .stop) (pointOf (length (now (s .args .places))) (s .args .r)) _ _ _ _ _ (subst (Sloped J _ _) (c .before .before .before .before .before .before .before .before .before .before .found .given .1) (c .before .before .before .before .before .before .before .before .before .before .before .before .before .before .before .before .before .slope-at .ensures .0)) (c .before .before .before .before .before .before .before .reason .ensures) (show .0) (show .1)
 
 same-length-3 : tie.Need-same-length-3
 same-length-3 c = c .before .before .before .before .before .before .before .before .slope-at .kept .1 .1 .1 .1 .1 .1 .1 .0

@@ -35,64 +35,77 @@ array-share-prefix-anchor c =
 
 slice-aggregate-objective : tie.Need-slice-aggregate-objective
 slice-aggregate-objective c =
+    let read = c .before .before .read in
     let s = c .before .before .before .before .before .before .before .before .before .before in
     let J = jobBy (now (s .args .card)) (s .args .h) (now (s .args .places)) (s .args .c) in
-    sym (length-take-le _ _ (read-fits J (now (s .args .model)) (c .before .before .read .last .1 .1 .0) (c .before .before .before .before .before .room .result) (c .before .before .read .ensures) (s .pre .1)))
+    sym (length-take-le _ _ (read-fits J (now (s .args .model)) (read .last .1 .1 .0) (c .before .before .before .before .before .room .result) (read .ensures) (s .pre .1)))
 
 array-share-prefix-x : tie.Need-array-share-prefix-x
 array-share-prefix-x c =
+    let read = c .before .before .read in
     let s = c .before .before .before .before .before .before .before .before .before .before in
     let J = jobBy (now (s .args .card)) (s .args .h) (now (s .args .places)) (s .args .c) in
-    read-fits J (now (s .args .model)) (c .before .before .read .last .1 .1 .0) (c .before .before .before .before .before .room .result) (c .before .before .read .ensures) (s .pre .1)
+    read-fits J (now (s .args .model)) (read .last .1 .1 .0) (c .before .before .before .before .before .room .result) (read .ensures) (s .pre .1)
 
 slice-aggregate-objective-2 : tie.Need-slice-aggregate-objective-2
 slice-aggregate-objective-2 c =
+    let read = c .before .before .before .read in
     let s = c .before .before .before .before .before .before .before .before .before .before .before in
     let J = jobBy (now (s .args .card)) (s .args .h) (now (s .args .places)) (s .args .c) in
-    sym (length-take-le _ _ (read-fits J (now (s .args .model)) (c .before .before .before .read .last .1 .1 .0) (c .before .before .before .before .before .before .room .result) (c .before .before .before .read .ensures) (s .pre .1)))
+    sym (length-take-le _ _ (read-fits J (now (s .args .model)) (read .last .1 .1 .0) (c .before .before .before .before .before .before .room .result) (read .ensures) (s .pre .1)))
 
 objective-requires : tie.Need-objective-requires
 objective-requires c κs =
+    let room = c .before .before .before .before .before .before .room .result in
+    let read = c .before .before .before .read in
     let s = c .before .before .before .before .before .before .before .before .before .before .before in
     let J = jobBy (now (s .args .card)) (s .args .h) (now (s .args .places)) (s .args .c) in
-    (read-front J (now (s .args .model)) (c .before .before .before .read .last .1 .1 .0) (c .before .before .before .before .before .before .room .result) (c .before .before .before .read .ensures) (s .pre .1), length-take-le _ _ (read-fits J (now (s .args .model)) (c .before .before .before .read .last .1 .1 .0) (c .before .before .before .before .before .before .room .result) (c .before .before .before .read .ensures) (s .pre .1)))
+    (read-front J (now (s .args .model)) (read .last .1 .1 .0) room (read .ensures) (s .pre .1), length-take-le _ _ (read-fits J (now (s .args .model)) (read .last .1 .1 .0) room (read .ensures) (s .pre .1)))
 
 array-share-prefix-anchor-2 : tie.Need-array-share-prefix-anchor-2
 array-share-prefix-anchor-2 c =
+    let read = c .before .before .before .before .read in
     let s = c .before .before .before .before .before .before .before .before .before .before .before .before in
     let J = jobBy (now (s .args .card)) (s .args .h) (now (s .args .places)) (s .args .c) in
-    read-fits J (now (s .args .model)) (c .before .before .before .before .read .last .1 .1 .0) (c .before .before .before .before .before .before .before .room .result) (c .before .before .before .before .read .ensures) (s .pre .1)
+    read-fits J (now (s .args .model)) (read .last .1 .1 .0) (c .before .before .before .before .before .before .before .room .result) (read .ensures) (s .pre .1)
 
 slice-aggregate-run : tie.Need-slice-aggregate-run
 slice-aggregate-run c =
+    let read = c .before .before .before .before .before .read in
     let s = c .before .before .before .before .before .before .before .before .before .before .before .before .before in
     let J = jobBy (now (s .args .card)) (s .args .h) (now (s .args .places)) (s .args .c) in
-    sym (length-take-le _ _ (read-fits J (now (s .args .model)) (c .before .before .before .before .before .read .last .1 .1 .0) (c .before .before .before .before .before .before .before .before .room .result) (c .before .before .before .before .before .read .ensures) (s .pre .1)))
+    sym (length-take-le _ _ (read-fits J (now (s .args .model)) (read .last .1 .1 .0) (c .before .before .before .before .before .before .before .before .room .result) (read .ensures) (s .pre .1)))
 
 run-requires : tie.Need-run-requires
 run-requires c κs =
+    let room = c .before .before .before .before .before .before .before .before .before .before .room in
+    let read = c .before .before .before .before .before .before .before .read in
     let s = c .before .before .before .before .before .before .before .before .before .before .before .before .before .before .before in
     let J = jobBy (now (s .args .card)) (s .args .h) (now (s .args .places)) (s .args .c) in
-    (record { placed = s .pre .0; anchored = read-front J (now (s .args .model)) (c .before .before .before .before .before .before .before .read .last .1 .1 .0) (c .before .before .before .before .before .before .before .before .before .before .room .result) (c .before .before .before .before .before .before .before .read .ensures) (s .pre .1); model-room = ap length (s .pre .1) ∙ length-model _ _; columns-room = s .pre .2 }, s .pre .3, s .pre .4, refl, refl, read-room J (now (s .args .model)) (c .before .before .before .before .before .before .before .read .last .1 .1 .0) (c .before .before .before .before .before .before .before .before .before .before .room .result) (c .before .before .before .before .before .before .before .read .ensures) (s .pre .1) (omega (arith, s .pre .0 .few, c .before .before .before .before .before .before .before .before .before .before .room .ensures)) ∙ sym (c .before .before .before .before .before .before .before .before .before .before .room .ensures), refl)
+    (record { placed = s .pre .0; anchored = read-front J (now (s .args .model)) (read .last .1 .1 .0) (room .result) (read .ensures) (s .pre .1); model-room = ap length (s .pre .1) ∙ length-model _ _; columns-room = s .pre .2 }, s .pre .3, s .pre .4, refl, refl, read-room J (now (s .args .model)) (read .last .1 .1 .0) (room .result) (read .ensures) (s .pre .1) (omega (arith, s .pre .0 .few, room .ensures)) ∙ sym (room .ensures), refl)
 
 array-share-prefix-anchor-3 : tie.Need-array-share-prefix-anchor-3
 array-share-prefix-anchor-3 c =
+    let read = c .before .before .before .before .before .before .before .before .before .before .before .before .read in
     let s = c .before .before .before .before .before .before .before .before .before .before .before .before .before .before .before .before .before .before .before .before in
     let J = jobBy (now (s .args .card)) (s .args .h) (now (s .args .places)) (s .args .c) in
-    read-fits J (now (s .args .model)) (c .before .before .before .before .before .before .before .before .before .before .before .before .read .last .1 .1 .0) (c .before .before .before .before .before .before .before .before .before .before .before .before .before .before .before .room .result) (c .before .before .before .before .before .before .before .before .before .before .before .before .read .ensures) (s .pre .1)
+    read-fits J (now (s .args .model)) (read .last .1 .1 .0) (c .before .before .before .before .before .before .before .before .before .before .before .before .before .before .before .room .result) (read .ensures) (s .pre .1)
 
 slice-aggregate-finish : tie.Need-slice-aggregate-finish
 slice-aggregate-finish c =
+    let read = c .before .before .before .before .before .before .before .before .before .before .before .before .before .read in
     let s = c .before .before .before .before .before .before .before .before .before .before .before .before .before .before .before .before .before .before .before .before .before in
     let J = jobBy (now (s .args .card)) (s .args .h) (now (s .args .places)) (s .args .c) in
-    sym (length-take-le _ _ (read-fits J (now (s .args .model)) (c .before .before .before .before .before .before .before .before .before .before .before .before .before .read .last .1 .1 .0) (c .before .before .before .before .before .before .before .before .before .before .before .before .before .before .before .before .room .result) (c .before .before .before .before .before .before .before .before .before .before .before .before .before .read .ensures) (s .pre .1)))
+    sym (length-take-le _ _ (read-fits J (now (s .args .model)) (read .last .1 .1 .0) (c .before .before .before .before .before .before .before .before .before .before .before .before .before .before .before .before .room .result) (read .ensures) (s .pre .1)))
 
 finish-requires : tie.Need-finish-requires
 finish-requires c κs =
+    let read = c .before .before .before .before .before .before .before .before .before .before .before .before .before .before .before .read in
+    let run = c .before .before .before .before .before .before .before .run in
     let s = c .before .before .before .before .before .before .before .before .before .before .before .before .before .before .before .before .before .before .before .before .before .before .before in
     let J = jobBy (now (s .args .card)) (s .args .h) (now (s .args .places)) (s .args .c) in
-    let k = c .before .before .before .before .before .before .before .run .kept .1 .1 .1 .1 .1 .1 in
-    (record { placed = s .pre .0; anchored = read-front J (now (s .args .model)) (c .before .before .before .before .before .before .before .before .before .before .before .before .before .before .before .read .last .1 .1 .0) (c .before .before .before .before .before .before .before .before .before .before .before .before .before .before .before .before .before .before .room .result) (c .before .before .before .before .before .before .before .before .before .before .before .before .before .before .before .read .ensures) (s .pre .1); model-room = k .0 ∙ ap length (s .pre .1) ∙ length-model _ _; columns-room = omega (arith, k .1 .0, s .pre .2) }, c .before .before .before .before .before .before .before .run .ensures .0 .underway, c .before .before .before .before .before .before .before .run .ensures .0 .normed)
+    let k = run .kept .1 .1 .1 .1 .1 .1 in
+    (record { placed = s .pre .0; anchored = read-front J (now (s .args .model)) (read .last .1 .1 .0) (c .before .before .before .before .before .before .before .before .before .before .before .before .before .before .before .before .before .before .room .result) (read .ensures) (s .pre .1); model-room = k .0 ∙ ap length (s .pre .1) ∙ length-model _ _; columns-room = omega (arith, k .1 .0, s .pre .2) }, run .ensures .0 .underway, run .ensures .0 .normed)
 
 same-length : tie.Need-same-length
 same-length c = c .before .before .before .before .finish .kept .1 .1 .1 .1 .1 .1 .1 .0 ∙ c .before .before .before .before .before .before .before .before .before .before .before .before .run .kept .1 .1 .1 .1 .1 .1 .0
@@ -102,9 +115,10 @@ same-length-2 c = c .before .before .before .before .finish .kept .1 .1 .1 .1 .1
 
 returns : tie.Need-returns
 returns c =
+    let read = c .before .before .before .before .before .before .before .before .before .before .before .before .before .before .before .before .before .before .before .before .read in
     let s = c .before .before .before .before .before .before .before .before .before .before .before .before .before .before .before .before .before .before .before .before .before .before .before .before .before .before .before .before in
     let J = jobBy (now (s .args .card)) (s .args .h) (now (s .args .places)) (s .args .c) in
-    c .before .before .before .before .finish .ensures ∙ fit-ends J (s .args .d) (s .pre .5) _ _ (begins J (s .args .d) (s .pre .5) _ _ (read-front J (now (s .args .model)) (c .before .before .before .before .before .before .before .before .before .before .before .before .before .before .before .before .before .before .before .before .read .last .1 .1 .0) (c .before .before .before .before .before .before .before .before .before .before .before .before .before .before .before .before .before .before .before .before .before .before .before .room .result) (c .before .before .before .before .before .before .before .before .before .before .before .before .before .before .before .before .before .before .before .before .read .ensures) (s .pre .1)) (c .before .before .before .before .before .before .before .before .before .before .before .before .before .before .before .before .objective .ensures)) (c .before .before .before .before .before .before .before .before .before .before .before .before .run .ensures .0 .state)
+    c .before .before .before .before .finish .ensures ∙ fit-ends J (s .args .d) (s .pre .5) _ _ (begins J (s .args .d) (s .pre .5) _ _ (read-front J (now (s .args .model)) (read .last .1 .1 .0) (c .before .before .before .before .before .before .before .before .before .before .before .before .before .before .before .before .before .before .before .before .before .before .before .room .result) (read .ensures) (s .pre .1)) (c .before .before .before .before .before .before .before .before .before .before .before .before .before .before .before .before .objective .ensures)) (c .before .before .before .before .before .before .before .before .before .before .before .before .run .ensures .0 .state)
 
 pub fit-from-spec : {M : Type 1} → statement M
 fit-from-spec =

@@ -12,7 +12,9 @@ use Rattle.fit.proofs.read.Statement.{statement}
 use Rattle.fit.proofs.read.Tie as tie
 
 gather-requires : tie.Need-gather-requires
-gather-requires c κs = (search needs, λ k h. c .before .before .before .before .pre .1 k (omega (arith, c .before .before .before .before .pre .0)))
+gather-requires c κs =
+    let o = c .before .before .before .before in
+    (search needs, λ k h. o .pre .1 k (omega (arith, o .pre .0)))
 
 same-length : tie.Need-same-length
 same-length c = search needs

@@ -36,13 +36,14 @@ slice-aggregate-fit-at c =
 
 fit-at-requires : tie.Need-fit-at-requires
 fit-at-requires c κs =
+    let config-of = c .before .before .before .before .before .before .before .config-of .ensures in
     let s = c .before .before .before .before .before .before .before .before .before .before .before in
     let ps = front-again (placesOf (now (s .args .card)) (s .args .h)) _ (c .before .before .before .before .load-places .ensures) (length-places _ _) in (
       placed-by (now (s .args .card)) (s .args .h) (s .pre .0) (s .pre .1) (s .pre .2) (s .pre .3) (s .pre .4) _ ps,
       s .pre .7,
       s .pre .8,
-      subst (λ (c : GstOptimizerConfig). c .«max_backtracks» ≤ 255) (sym (c .before .before .before .before .before .before .before .config-of .ensures)) (s .pre .5),
-      subst (λ (c : GstOptimizerConfig). c .«max_iterations» ≤ 65535) (sym (c .before .before .before .before .before .before .before .config-of .ensures)) (s .pre .6),
+      subst (λ (c : GstOptimizerConfig). c .«max_backtracks» ≤ 255) (sym config-of) (s .pre .5),
+      subst (λ (c : GstOptimizerConfig). c .«max_iterations» ≤ 65535) (sym config-of) (s .pre .6),
     )
 
 same-length : tie.Need-same-length

@@ -44,9 +44,10 @@ same-length-2 c = c .before .before .before .before .fit-diagnostics .kept .1 .1
 
 returns : tie.Need-returns
 returns c =
+    let fill = c .before .before .before .before .before .before .before .before .before .fill .ensures in
     let s = c .before .before .before .before .before .before .before .before .before .before .before .before .before .before .before .before .before in
     let J = jobBy (now (s .args .card)) (s .args .h) (now (s .args .places)) (s .args .c) in
-    (c .before .before .before .before .before .before .before .before .before .fill .ensures, shown J (s .args .initial) (s .args .stop) (pointOf (length (now (s .args .places))) (s .args .r)) (s .args .z) _ _ _ (c .before .before .before .before .before .before .before .before .before .fill .ensures) (c .before .before .before .before .fit-diagnostics .ensures .0) (c .before .diagnostics-in .ensures))
+    (fill, shown J (s .args .initial) (s .args .stop) (pointOf (length (now (s .args .places))) (s .args .r)) (s .args .z) _ _ _ fill (c .before .before .before .before .fit-diagnostics .ensures .0) (c .before .diagnostics-in .ensures))
 
 pub show-spec : {M : Type 1} → statement M
 show-spec =

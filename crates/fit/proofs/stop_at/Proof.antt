@@ -23,9 +23,10 @@ same-length-2 c = c .before .before .before .before .show .kept .1 .1 .1 .1 .1 .
 
 returns : tie.Need-returns
 returns c =
+    let show = c .before .before .before .before .show .ensures in
     let s = c .before .before .before .before .before .before .before .before .before .before .before .before .before .before in
     let J = jobBy (now (s .args .card)) (s .args .h) (now (s .args .places)) (s .args .c) in
-    known J (s .args .initial) (s .args .k) (pointOf (length (now (s .args .places))) (s .args .r)) _ _ _ (s .pre .2) (sym (c .before .before .before .before .before .before .before .before .keeps-norm .ensures) ∙ c .before .before .before .before .before .before .before .if1 .taken) (c .before .before .before .before .show .ensures .0) (c .before .before .before .before .show .ensures .1)
+    known J (s .args .initial) (s .args .k) (pointOf (length (now (s .args .places))) (s .args .r)) _ _ _ (s .pre .2) (sym (c .before .before .before .before .before .before .before .before .keeps-norm .ensures) ∙ c .before .before .before .before .before .before .before .if1 .taken) (show .0) (show .1)
 
 close-requires : tie.Need-close-requires
 close-requires c κs = search needs

@@ -24,14 +24,20 @@ request-sheet-requires c κs = search needs
 
 returns : tie.Need-returns
 unfolding fitSheet
-returns c = stays _ (ap (λ (v : Verdict). after v refused (requestSheet (now (c .before .before .before .before .before .before .args .card)) (c .before .before .before .before .before .before .args .h))) (sym (c .before .found .given .1) ∙ c .before .before .before .check-model .ensures))
+returns c =
+    let o = c .before .before .before .before .before .before in
+    let a = o .args in
+    stays _ (ap (λ (v : Verdict). after v refused (requestSheet (now (a .card)) (a .h))) (sym (c .before .found .given .1) ∙ c .before .before .before .check-model .ensures))
 
 same-length : tie.Need-same-length
 same-length c = search needs
 
 returns-2 : tie.Need-returns-2
 unfolding fitSheet
-returns-2 c = same-outcome (ap (λ (v : Verdict). after v refused (requestSheet (now (c .before .before .before .before .before .before .before .before .before .args .card)) (c .before .before .before .before .before .before .before .before .before .args .h))) (sym (c .before .before .before .before .enum-told .given .1) ∙ c .before .before .before .before .before .before .check-model .ensures)) (c .before .before .request-sheet .ensures)
+returns-2 c =
+    let o = c .before .before .before .before .before .before .before .before .before in
+    let a = o .args in
+    same-outcome (ap (λ (v : Verdict). after v refused (requestSheet (now (a .card)) (a .h))) (sym (c .before .before .before .before .enum-told .given .1) ∙ c .before .before .before .before .before .before .check-model .ensures)) (c .before .before .request-sheet .ensures)
 
 pub fit-sheet-spec : {M : Type 1} → statement M
 fit-sheet-spec =

@@ -21,13 +21,19 @@ part-put-model-end : tie.Need-part-put-model-end
 part-put-model-end c = search needs
 
 put-model-requires : tie.Need-put-model-requires
-put-model-requires c κs = (c .before .before .before .before .before .before .before .before .pre .0, omega (arith, c .before .before .before .before .before .before .before .before .pre .1), rest-fits _ (now (c .before .before .before .before .before .before .before .before .args .result)) _ (c .before .before .before .put-numbers .ensures) (c .before .before .before .before .before .before .before .before .pre .2) (c .before .before .before .before .before .before .before .before .args .h) _ (c .before .before .before .before .before .before .before .before .pre .0 .limits) refl)
+put-model-requires c κs =
+    let o = c .before .before .before .before .before .before .before .before in
+    let a = o .args in
+    (o .pre .0, omega (arith, o .pre .1), rest-fits _ (now (a .result)) _ (c .before .before .before .put-numbers .ensures) (o .pre .2) (a .h) _ (o .pre .0 .limits) refl)
 
 same-length : tie.Need-same-length
 same-length c = search needs
 
 returns : tie.Need-returns
-returns c = fit-written _ _ (fittedOf (c .before .before .before .before .before .before .before .before .before .before .before .args .f) (now (c .before .before .before .before .before .before .before .before .before .before .before .args .model))) (now (c .before .before .before .before .before .before .before .before .before .before .before .args .result)) _ _ _ (c .before .before .before .before .before .before .put-numbers .ensures) refl (c .before .before .put-model .ensures)
+returns c =
+    let o = c .before .before .before .before .before .before .before .before .before .before .before in
+    let a = o .args in
+    fit-written _ _ (fittedOf (a .f) (now (a .model))) (now (a .result)) _ _ _ (c .before .before .before .before .before .before .put-numbers .ensures) refl (c .before .before .put-model .ensures)
 
 pub put-words-spec : {M : Type 1} → statement M
 put-words-spec =

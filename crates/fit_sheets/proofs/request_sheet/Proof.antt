@@ -14,7 +14,10 @@ use Rattle.fit_sheets.proofs.request_sheet.Statement.{statement}
 use Rattle.fit_sheets.proofs.request_sheet.Tie as tie
 
 check-request-requires : tie.Need-check-request-requires
-check-request-requires c κs = (c .before .before .pre .0 .shaped, controls-in (now (c .before .before .args .card)) (c .before .before .args .h) (c .before .before .pre .0 .shaped) (c .before .before .pre .0 .kind))
+check-request-requires c κs =
+    let o = c .before .before in
+    let a = o .args in
+    (o .pre .0 .shaped, controls-in (now (a .card)) (a .h) (o .pre .0 .shaped) (o .pre .0 .kind))
 
 enum-known-found : tie.Need-enum-known-found
 enum-known-found c = search needs
@@ -23,18 +26,26 @@ enum-told : tie.Need-enum-told
 enum-told c = search needs
 
 run-fit-requires : tie.Need-run-fit-requires
-run-fit-requires c κs = (c .before .before .before .before .before .before .pre .0, sym (c .before .before .before .check-request .ensures) ∙ c .before .enum-told .given .1, c .before .before .before .before .before .before .pre .1)
+run-fit-requires c κs =
+    let o = c .before .before .before .before .before .before in
+    (o .pre .0, sym (c .before .before .before .check-request .ensures) ∙ c .before .enum-told .given .1, o .pre .1)
 
 returns : tie.Need-returns
 unfolding requestSheet
-returns c = stays _ (ap (λ (v : Verdict). after v refused (outcomeSheet (now (c .before .before .before .before .before .before .args .card)) (c .before .before .before .before .before .before .args .h) (fitOf (jobOf (now (c .before .before .before .before .before .before .args .card)) (c .before .before .before .before .before .before .args .h))))) (sym (c .before .found .given .1) ∙ c .before .before .before .check-request .ensures))
+returns c =
+    let o = c .before .before .before .before .before .before in
+    let a = o .args in
+    stays _ (ap (λ (v : Verdict). after v refused (outcomeSheet (now (a .card)) (a .h) (fitOf (jobOf (now (a .card)) (a .h))))) (sym (c .before .found .given .1) ∙ c .before .before .before .check-request .ensures))
 
 same-length : tie.Need-same-length
 same-length c = search needs
 
 returns-2 : tie.Need-returns-2
 unfolding requestSheet
-returns-2 c = same-outcome (ap (λ (v : Verdict). after v refused (outcomeSheet (now (c .before .before .before .before .before .before .before .before .before .args .card)) (c .before .before .before .before .before .before .before .before .before .args .h) (fitOf (jobOf (now (c .before .before .before .before .before .before .before .before .before .args .card)) (c .before .before .before .before .before .before .before .before .before .args .h))))) (sym (c .before .before .before .before .enum-told .given .1) ∙ c .before .before .before .before .before .before .check-request .ensures)) (c .before .before .run-fit .ensures)
+returns-2 c =
+    let o = c .before .before .before .before .before .before .before .before .before in
+    let a = o .args in
+    same-outcome (ap (λ (v : Verdict). after v refused (outcomeSheet (now (a .card)) (a .h) (fitOf (jobOf (now (a .card)) (a .h))))) (sym (c .before .before .before .before .enum-told .given .1) ∙ c .before .before .before .before .before .before .check-request .ensures)) (c .before .before .run-fit .ensures)
 
 pub request-sheet-spec : {M : Type 1} → statement M
 request-sheet-spec =

@@ -35,33 +35,55 @@ slice-aggregate-reconstruct-gate-set-2 c = search needs
 reconstruct-gate-set-requires : tie.Need-reconstruct-gate-set-requires
 unfolding configOf
 reconstruct-gate-set-requires c κs =
-    let r = c .before .before .before .before .before .before .before .pre .0 in
-    let g = request-good (now (c .before .before .before .before .before .before .before .args .card)) (c .before .before .before .before .before .before .before .args .h) (c .before .before .before .before .before .before .before .pre .1) in (
+    let o = c .before .before .before .before .before .before .before in
+    let a = o .args in
+    let model-numbers = c .before .before .before .before .model-numbers .ensures in
+    let r = o .pre .0 in
+    let g = request-good (now (a .card)) (a .h) (o .pre .1) in (
       r .shaped,
       r .kind,
       r .shaped .limits .coordinates,
       r .sequences,
-      places-inside (now (c .before .before .before .before .before .before .before .args .card)) (c .before .before .before .before .before .before .before .args .h) (g .1),
+      places-inside (now (a .card)) (a .h) (g .1),
       r .backtracks,
       r .iterations,
-      length-take-le _ _ (omega (arith, c .before .before .before .before .model-numbers .ensures .1, c .before .before .before .model-room .ensures)) ∙ c .before .before .before .before .model-numbers .ensures .0,
-      omega (arith, gates-most (c .before .before .before .before .before .before .before .args .h) (r .shaped .limits), c .before .before .columns-room .ensures),
+      length-take-le _ _ (omega (arith, model-numbers .1, c .before .before .before .model-room .ensures)) ∙ model-numbers .0,
+      omega (arith, gates-most (a .h) (r .shaped .limits), c .before .before .columns-room .ensures),
     )
 
 array-share-prefix-model : tie.Need-array-share-prefix-model
-array-share-prefix-model c = front-long (c .before .before .before .before .before .before .before .model-numbers .result) (c .before .before .reconstruct-gate-set .last .1 .1 .0) (c .before .before .before .before .before .before .model-room .result) _ refl (c .before .before .reconstruct-gate-set .ensures .1 ∙ length-take-le _ _ (omega (arith, c .before .before .before .before .before .before .before .model-numbers .ensures .1, c .before .before .before .before .before .before .model-room .ensures)))
+array-share-prefix-model c =
+    let model-numbers = c .before .before .before .before .before .before .before .model-numbers in
+    let model-room = c .before .before .before .before .before .before .model-room in
+    let reconstruct-gate-set = c .before .before .reconstruct-gate-set in
+    front-long (model-numbers .result) (reconstruct-gate-set .last .1 .1 .0) (model-room .result) _ refl (reconstruct-gate-set .ensures .1 ∙ length-take-le _ _ (omega (arith, model-numbers .ensures .1, model-room .ensures)))
 
 slice-aggregate-show-fit : tie.Need-slice-aggregate-show-fit
-slice-aggregate-show-fit c = sym (length-take-le _ _ (front-long (c .before .before .before .before .before .before .before .before .model-numbers .result) (c .before .before .before .reconstruct-gate-set .last .1 .1 .0) (c .before .before .before .before .before .before .before .model-room .result) _ refl (c .before .before .before .reconstruct-gate-set .ensures .1 ∙ length-take-le _ _ (omega (arith, c .before .before .before .before .before .before .before .before .model-numbers .ensures .1, c .before .before .before .before .before .before .before .model-room .ensures)))))
+slice-aggregate-show-fit c =
+    let model-numbers = c .before .before .before .before .before .before .before .before .model-numbers in
+    let model-room = c .before .before .before .before .before .before .before .model-room in
+    let reconstruct-gate-set = c .before .before .before .reconstruct-gate-set in
+    sym (length-take-le _ _ (front-long (model-numbers .result) (reconstruct-gate-set .last .1 .1 .0) (model-room .result) _ refl (reconstruct-gate-set .ensures .1 ∙ length-take-le _ _ (omega (arith, model-numbers .ensures .1, model-room .ensures)))))
 
 show-fit-requires : tie.Need-show-fit-requires
-show-fit-requires c κs = (c .before .before .before .before .before .before .before .before .before .before .before .before .pre .0 .shaped, length-take-le _ _ (front-long (c .before .before .before .before .before .before .before .before .before .model-numbers .result) (c .before .before .before .before .reconstruct-gate-set .last .1 .1 .0) (c .before .before .before .before .before .before .before .before .model-room .result) _ refl (c .before .before .before .before .reconstruct-gate-set .ensures .1 ∙ length-take-le _ _ (omega (arith, c .before .before .before .before .before .before .before .before .before .model-numbers .ensures .1, c .before .before .before .before .before .before .before .before .model-room .ensures)))) ∙ c .before .before .before .before .before .before .before .before .before .model-numbers .ensures .0, c .before .before .before .before .before .before .before .before .before .before .before .before .pre .2)
+show-fit-requires c κs =
+    let o = c .before .before .before .before .before .before .before .before .before .before .before .before in
+    let model-numbers = c .before .before .before .before .before .before .before .before .before .model-numbers in
+    let model-room = c .before .before .before .before .before .before .before .before .model-room in
+    let reconstruct-gate-set = c .before .before .before .before .reconstruct-gate-set in
+    (o .pre .0 .shaped, length-take-le _ _ (front-long (model-numbers .result) (reconstruct-gate-set .last .1 .1 .0) (model-room .result) _ refl (reconstruct-gate-set .ensures .1 ∙ length-take-le _ _ (omega (arith, model-numbers .ensures .1, model-room .ensures)))) ∙ model-numbers .ensures .0, o .pre .2)
 
 same-length : tie.Need-same-length
 same-length c = search needs
 
 returns : tie.Need-returns
-returns c = same-outcome (ap (outcomeSheet (now (c .before .before .before .before .before .before .before .before .before .before .before .before .before .before .before .args .card)) (c .before .before .before .before .before .before .before .before .before .before .before .before .before .before .before .args .h)) (ap (outcomeOf (c .before .before .before .before .before .before .before .reconstruct-gate-set .result)) (front-is (c .before .before .before .before .before .before .before .before .before .before .before .before .model-numbers .result) (c .before .before .before .before .before .before .before .reconstruct-gate-set .last .1 .1 .0) (c .before .before .before .before .before .before .before .before .before .before .before .model-room .result) _ refl (c .before .before .before .before .before .before .before .reconstruct-gate-set .ensures .1 ∙ length-take-le _ _ (omega (arith, c .before .before .before .before .before .before .before .before .before .before .before .before .model-numbers .ensures .1, c .before .before .before .before .before .before .before .before .before .before .before .model-room .ensures)))) ∙ c .before .before .before .before .before .before .before .reconstruct-gate-set .ensures .0)) (c .before .before .show-fit .ensures)
+returns c =
+    let o = c .before .before .before .before .before .before .before .before .before .before .before .before .before .before .before in
+    let a = o .args in
+    let model-numbers = c .before .before .before .before .before .before .before .before .before .before .before .before .model-numbers in
+    let model-room = c .before .before .before .before .before .before .before .before .before .before .before .model-room in
+    let reconstruct-gate-set = c .before .before .before .before .before .before .before .reconstruct-gate-set in
+    same-outcome (ap (outcomeSheet (now (a .card)) (a .h)) (ap (outcomeOf (reconstruct-gate-set .result)) (front-is (model-numbers .result) (reconstruct-gate-set .last .1 .1 .0) (model-room .result) _ refl (reconstruct-gate-set .ensures .1 ∙ length-take-le _ _ (omega (arith, model-numbers .ensures .1, model-room .ensures)))) ∙ reconstruct-gate-set .ensures .0)) (c .before .before .show-fit .ensures)
 
 pub run-fit-spec : {M : Type 1} → statement M
 run-fit-spec =

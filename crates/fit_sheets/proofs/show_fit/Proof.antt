@@ -29,13 +29,19 @@ model-words-requires : tie.Need-model-words-requires
 model-words-requires c κs = search needs
 
 returns : tie.Need-returns
-returns c = stays _ (ap (λ (q : Fitting). outcomeSheet (now (c .before .before .before .before .before .before .args .card)) (c .before .before .before .before .before .before .args .h) (outcomeOf q (now (c .before .before .before .before .before .before .args .model)))) (sym (c .before .q .given .1)))
+returns c =
+    let o = c .before .before .before .before .before .before in
+    let a = o .args in
+    stays _ (ap (λ (q : Fitting). outcomeSheet (now (a .card)) (a .h) (outcomeOf q (now (a .model)))) (sym (c .before .q .given .1)))
 
 same-length : tie.Need-same-length
 same-length c = search needs
 
 returns-2 : tie.Need-returns-2
-returns-2 c = fit-shown (now (c .before .before .before .before .before .before .before .before .before .before .before .before .before .args .card)) (c .before .before .before .before .before .before .before .before .before .before .before .before .before .args .h) (c .before .before .before .before .before .before .before .before .before .before .before .before .before .args .q) _ (now (c .before .before .before .before .before .before .before .before .before .before .before .before .before .args .model)) (now (c .before .before .before .before .before .before .before .before .before .before .before .before .before .args .result)) _ _ _ _ (c .before .before .before .before .before .before .before .before .q2 .given .1) (c .before .before .stop-number .ensures) (c .before .has-converged .ensures) (c .model-words .ensures .0) (c .before .before .before .before .before .put-words .ensures)
+returns-2 c =
+    let o = c .before .before .before .before .before .before .before .before .before .before .before .before .before in
+    let a = o .args in
+    fit-shown (now (a .card)) (a .h) (a .q) _ (now (a .model)) (now (a .result)) _ _ _ _ (c .before .before .before .before .before .before .before .before .q2 .given .1) (c .before .before .stop-number .ensures) (c .before .has-converged .ensures) (c .model-words .ensures .0) (c .before .before .before .before .before .put-words .ensures)
 
 pub show-fit-spec : {M : Type 1} → statement M
 show-fit-spec =

@@ -27,7 +27,11 @@ shared-slice-read-g : tie.Need-shared-slice-read-g Inv-loop μ-loop
 shared-slice-read-g c = search needs
 
 returns : tie.Need-returns Inv-loop μ-loop
-returns c = gate-missing (c .before .before .before .before .args .gates) (now (c .before .before .before .before .args .sequence)) (c .before .before .before .loop .k) (search needs) (search needs) (c .before .before .before .loop .inv .1)
+returns c =
+    let o = c .before .before .before .before in
+    let a = o .args in
+    let l = c .before .before .before .loop in
+    gate-missing (a .gates) (now (a .sequence)) (l .k) (search needs) (search needs) (l .inv .1)
 
 add-k : tie.Need-add-k Inv-loop μ-loop
 add-k c = search needs
@@ -36,10 +40,17 @@ loop-less : tie.Need-loop-less Inv-loop μ-loop
 loop-less c = search needs
 
 loop-again : tie.Need-loop-again Inv-loop μ-loop
-loop-again c = (search needs, gate-present (c .before .before .before .before .args .gates) (now (c .before .before .before .before .args .sequence)) (c .before .before .before .loop .k) (search needs) (c .before .before .before .loop .inv .1))
+loop-again c =
+    let o = c .before .before .before .before in
+    let a = o .args in
+    let l = c .before .before .before .loop in
+    (search needs, gate-present (a .gates) (now (a .sequence)) (l .k) (search needs) (l .inv .1))
 
 returns-2 : tie.Need-returns-2 Inv-loop μ-loop
-returns-2 c = all-present (c .before .before .args .gates) (now (c .before .before .args .sequence)) (c .before .loop .k) (omega arith) (c .before .loop .inv .1)
+returns-2 c =
+    let o = c .before .before in
+    let a = o .args in
+    all-present (a .gates) (now (a .sequence)) (c .before .loop .k) (omega arith) (c .before .loop .inv .1)
 
 pub check-sequence-spec : {M : Type 1} → statement M
 check-sequence-spec =

@@ -26,16 +26,28 @@ loop-holds : tie.Need-loop-holds Inv-loop μ-loop
 loop-holds c = (search needs, refl, fill-none _ _)
 
 mul-start : tie.Need-mul-start Inv-loop μ-loop
-mul-start c = omega (arith, row-in (c .before .loop .k) (c .before .before .before .before .before .args .e) (length (now (c .before .before .before .before .before .args .x))) (c .loop-test .taken))
+mul-start c =
+    let o = c .before .before .before .before .before in
+    let a = o .args in
+    omega (arith, row-in (c .before .loop .k) (a .e) (length (now (a .x))) (c .loop-test .taken))
 
 add-start : tie.Need-add-start Inv-loop μ-loop
-add-start c = omega (arith, row-in (c .before .loop .k) (c .before .before .before .before .before .args .e) (length (now (c .before .before .before .before .before .args .x))) (c .loop-test .taken))
+add-start c =
+    let o = c .before .before .before .before .before in
+    let a = o .args in
+    omega (arith, row-in (c .before .loop .k) (a .e) (length (now (a .x))) (c .loop-test .taken))
 
 add-end : tie.Need-add-end Inv-loop μ-loop
-add-end c = omega (arith, row-in (c .before .loop .k) (c .before .before .before .before .before .args .e) (length (now (c .before .before .before .before .before .args .x))) (c .loop-test .taken))
+add-end c =
+    let o = c .before .before .before .before .before in
+    let a = o .args in
+    omega (arith, row-in (c .before .loop .k) (a .e) (length (now (a .x))) (c .loop-test .taken))
 
 mul-dot : tie.Need-mul-dot Inv-loop μ-loop
-mul-dot c = omega (arith, row-in (c .before .loop .k) (c .before .before .before .before .before .args .e) (length (now (c .before .before .before .before .before .args .x))) (c .loop-test .taken))
+mul-dot c =
+    let o = c .before .before .before .before .before in
+    let a = o .args in
+    omega (arith, row-in (c .before .loop .k) (a .e) (length (now (a .x))) (c .loop-test .taken))
 
 sub-dot : tie.Need-sub-dot Inv-loop μ-loop
 sub-dot c = search needs
@@ -44,10 +56,16 @@ part-dot-start : tie.Need-part-dot-start Inv-loop μ-loop
 part-dot-start c = search needs
 
 part-dot-end : tie.Need-part-dot-end Inv-loop μ-loop
-part-dot-end c = effect-within (length (now (c .before .before .before .before .before .args .x))) (c .before .before .before .before .before .args .e) (c .before .loop .k) (now (c .before .before .before .before .before .args .model)) (c .loop-test .taken) (c .before .before .before .before .before .pre .2)
+part-dot-end c =
+    let o = c .before .before .before .before .before in
+    let a = o .args in
+    effect-within (length (now (a .x))) (a .e) (c .before .loop .k) (now (a .model)) (c .loop-test .taken) (o .pre .2)
 
 dot-requires : tie.Need-dot-requires Inv-loop μ-loop
-dot-requires c κs = let s = c .before .before .before .before .before .before in le-of-eq (lent-long (length (now (s .args .x)) + c .before .before .loop .k * length (now (s .args .x))) _ (length (now (s .args .x))) (now (s .args .model)) refl (effect-within (length (now (s .args .x))) (s .args .e) (c .before .before .loop .k) (now (s .args .model)) (c .before .loop-test .taken) (s .pre .2)))
+dot-requires c κs =
+    let l = c .before .before .loop .k in
+    let s = c .before .before .before .before .before .before in
+    le-of-eq (lent-long (length (now (s .args .x)) + l * length (now (s .args .x))) _ (length (now (s .args .x))) (now (s .args .model)) refl (effect-within (length (now (s .args .x))) (s .args .e) l (now (s .args .model)) (c .before .loop-test .taken) (s .pre .2)))
 
 mul-out : tie.Need-mul-out Inv-loop μ-loop
 mul-out c = search needs
@@ -62,7 +80,11 @@ loop-less : tie.Need-loop-less Inv-loop μ-loop
 loop-less c = add-one-dec _ _ (c .before .before .loop-test .taken)
 
 loop-again : tie.Need-loop-again Inv-loop μ-loop
-loop-again c = let s = c .before .before .before .before .before .before .before in (add-one-le (c .before .before .loop-test .taken), length-set (c .before .before .before .loop .out) (c .before .before .before .loop .k) (c .dot .result) ∙ c .before .before .before .loop .inv .1, fill-more _ _ _ _ _ (lt-of-lt-of-le (c .before .before .loop-test .taken) (s .pre .3)) (c .before .before .before .loop .inv .2) (c .dot .ensures ∙ dot-lent (now (s .args .model)) (now (s .args .x)) _ _ (length (now (s .args .x))) refl (effect-within (length (now (s .args .x))) (s .args .e) (c .before .before .before .loop .k) (now (s .args .model)) (c .before .before .loop-test .taken) (s .pre .2))))
+loop-again c =
+    let l = c .before .before .before .loop in
+    let loop-test = c .before .before .loop-test .taken in
+    let s = c .before .before .before .before .before .before .before in
+    (add-one-le loop-test, length-set (l .out) (l .k) (c .dot .result) ∙ l .inv .1, fill-more _ _ _ _ _ (lt-of-lt-of-le loop-test (s .pre .3)) (l .inv .2) (c .dot .ensures ∙ dot-lent (now (s .args .model)) (now (s .args .x)) _ _ (length (now (s .args .x))) refl (effect-within (length (now (s .args .x))) (s .args .e) (l .k) (now (s .args .model)) loop-test (s .pre .2))))
 
 same-length : tie.Need-same-length Inv-loop μ-loop
 same-length c = c .before .loop .inv .1

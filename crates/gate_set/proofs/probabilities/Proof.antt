@@ -12,7 +12,9 @@ slice-aggregate-probabilities-of : tie.Need-slice-aggregate-probabilities-of
 slice-aggregate-probabilities-of c = sym (length-take-le _ _ (search needs))
 
 probabilities-of-requires : tie.Need-probabilities-of-requires
-probabilities-of-requires c κs = rw (length-take-le _ _ (c .before .before .before .before .before .before .pre .0)) (c .before .before .before .before .before .before .pre)
+probabilities-of-requires c κs =
+    let o = c .before .before .before .before .before .before in
+    rw (length-take-le _ _ (o .pre .0)) (o .pre)
 
 same-length : tie.Need-same-length
 same-length c = search needs

@@ -18,7 +18,9 @@ slice-aggregate-probabilities-both-of-2 : tie.Need-slice-aggregate-probabilities
 slice-aggregate-probabilities-both-of-2 c = sym (length-take-le _ _ (search needs))
 
 probabilities-both-of-requires : tie.Need-probabilities-both-of-requires
-probabilities-both-of-requires c κs = (c .before .before .before .before .before .before .before .before .before .before .before .pre .0, c .before .before .before .before .before .before .before .before .before .before .before .pre .1, c .before .before .before .before .before .before .before .before .before .before .before .pre .2, c .before .before .before .before .before .before .before .before .before .before .before .pre .3, c .before .before .before .before .before .before .before .before .before .before .before .pre .4, c .before .before .before .before .before .before .before .before .before .before .before .pre .5, c .before .before .before .before .before .before .before .before .before .before .before .pre .6, c .before .before .before .before .before .before .before .before .before .before .before .pre .7, length-take-le _ _ (c .before .before .before .before .before .before .before .before .before .before .before .pre .0), length-take-le _ _ (c .before .before .before .before .before .before .before .before .before .before .before .pre .0))
+probabilities-both-of-requires c κs =
+    let o = c .before .before .before .before .before .before .before .before .before .before .before in
+    (o .pre .0, o .pre .1, o .pre .2, o .pre .3, o .pre .4, o .pre .5, o .pre .6, o .pre .7, length-take-le _ _ (o .pre .0), length-take-le _ _ (o .pre .0))
 
 same-length : tie.Need-same-length
 same-length c = search needs

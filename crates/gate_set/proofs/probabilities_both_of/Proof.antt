@@ -15,13 +15,19 @@ put-row-requires-2 : tie.Need-put-row-requires-2
 put-row-requires-2 c κs = search needs
 
 run-both-requires : tie.Need-run-both-requires
-run-both-requires c κs = (c .before .before .before .before .before .before .before .before .before .before .before .before .before .before .before .before .before .before .before .pre .0, c .before .before .before .before .before .before .before .before .put-row .kept .0 ∙ c .before .before .before .before .before .before .before .before .before .before .before .before .before .before .before .before .before .before .before .pre .8, c .before .before .before .before .put-row2 .kept .0 ∙ c .before .before .before .before .before .before .before .before .before .before .before .before .before .before .before .before .before .before .before .pre .9, c .before .before .before .before .before .before .before .before .before .before .before .before .before .before .before .before .before .before .before .pre .6, c .before .before .before .before .before .before .before .before .before .before .before .before .before .before .before .before .before .before .before .pre .7)
+run-both-requires c κs =
+    let o = c .before .before .before .before .before .before .before .before .before .before .before .before .before .before .before .before .before .before .before in
+    (o .pre .0, c .before .before .before .before .before .before .before .before .put-row .kept .0 ∙ o .pre .8, c .before .before .before .before .put-row2 .kept .0 ∙ o .pre .9, o .pre .6, o .pre .7)
 
 measure-requires : tie.Need-measure-requires
-measure-requires c κs = rw (c .before .before .before .before .before .before .run-both .kept .1 .1 .1 .1 .0 ∙ c .before .before .before .before .before .before .before .before .before .before .before .before .before .before .before .put-row .kept .0 ∙ c .before .before .before .before .before .before .before .before .before .before .before .before .before .before .before .before .before .before .before .before .before .before .before .before .before .before .pre .8) (c .before .before .before .before .before .before .before .before .before .before .before .before .before .before .before .before .before .before .before .before .before .before .before .before .before .before .pre .0, c .before .before .before .before .before .before .before .before .before .before .before .before .before .before .before .before .before .before .before .before .before .before .before .before .before .before .pre .1, c .before .before .before .before .before .before .before .before .before .before .before .before .before .before .before .before .before .before .before .before .before .before .before .before .before .before .pre .2, c .before .before .before .before .before .before .before .before .before .before .before .before .before .before .before .before .before .before .before .before .before .before .before .before .before .before .pre .4)
+measure-requires c κs =
+    let o = c .before .before .before .before .before .before .before .before .before .before .before .before .before .before .before .before .before .before .before .before .before .before .before .before .before .before in
+    rw (c .before .before .before .before .before .before .run-both .kept .1 .1 .1 .1 .0 ∙ c .before .before .before .before .before .before .before .before .before .before .before .before .before .before .before .put-row .kept .0 ∙ o .pre .8) (o .pre .0, o .pre .1, o .pre .2, o .pre .4)
 
 measure-requires-2 : tie.Need-measure-requires-2
-measure-requires-2 c κs = rw (c .before .before .before .before .before .before .before .before .before .before .before .run-both .kept .1 .1 .1 .1 .1 .0 ∙ c .before .before .before .before .before .before .before .before .before .before .before .before .before .before .before .before .put-row2 .kept .0 ∙ c .before .before .before .before .before .before .before .before .before .before .before .before .before .before .before .before .before .before .before .before .before .before .before .before .before .before .before .before .before .before .before .pre .9) (c .before .before .before .before .before .before .before .before .before .before .before .before .before .before .before .before .before .before .before .before .before .before .before .before .before .before .before .before .before .before .before .pre .0, c .before .before .before .before .before .before .before .before .before .before .before .before .before .before .before .before .before .before .before .before .before .before .before .before .before .before .before .before .before .before .before .pre .1, c .before .before .before .before .before .before .before .before .before .before .before .before .before .before .before .before .before .before .before .before .before .before .before .before .before .before .before .before .before .before .before .pre .3, c .before .before .before .before .before .before .before .before .before .before .before .before .before .before .before .before .before .before .before .before .before .before .before .before .before .before .before .before .before .before .before .pre .5)
+measure-requires-2 c κs =
+    let o = c .before .before .before .before .before .before .before .before .before .before .before .before .before .before .before .before .before .before .before .before .before .before .before .before .before .before .before .before .before .before .before in
+    rw (c .before .before .before .before .before .before .before .before .before .before .before .run-both .kept .1 .1 .1 .1 .1 .0 ∙ c .before .before .before .before .before .before .before .before .before .before .before .before .before .before .before .before .put-row2 .kept .0 ∙ o .pre .9) (o .pre .0, o .pre .1, o .pre .3, o .pre .5)
 
 same-length : tie.Need-same-length
 same-length c = c .before .before .before .before .before .before .before .before .before .before .before .before .before .x2 .given ∙ c .before .before .before .before .before .before .before .before .before .before .before .before .before .before .before .before .before .before .before .before .before .before .x .given
@@ -36,7 +42,13 @@ same-length-4 : tie.Need-same-length-4
 same-length-4 c = c .before .also .given
 
 returns : tie.Need-returns
-returns c = (run-measured (c .before .before .before .before .before .before .before .before .before .before .before .before .before .before .before .before .before .before .before .before .before .before .before .before .before .before .before .before .before .before .before .before .before .before .args .d) (c .before .before .before .before .before .before .before .before .before .before .before .before .before .before .before .before .before .before .before .before .before .before .before .before .before .before .before .before .before .before .before .before .before .before .args .e) (now (c .before .before .before .before .before .before .before .before .before .before .before .before .before .before .before .before .before .before .before .before .before .before .before .before .before .before .before .before .before .before .before .before .before .before .args .model)) (now (c .before .before .before .before .before .before .before .before .before .before .before .before .before .before .before .before .before .before .before .before .before .before .before .before .before .before .before .before .before .before .before .before .before .before .args .columns)) (now (c .before .before .before .before .before .before .before .before .before .before .before .before .before .before .before .before .before .before .before .before .before .before .before .before .before .before .before .before .before .before .before .before .before .before .args .sequence)) (now (c .before .before .before .before .before .before .before .before .before .before .before .before .before .before .before .before .before .before .before .before .before .before .before .before .before .before .before .before .before .before .before .before .before .before .args .out)) _ _ _ (c .before .before .before .before .before .before .before .before .before .before .before .before .before .before .before .before .before .before .before .before .before .before .before .put-row .ensures ∙ ap (λ (n : ℕ). take n (now (c .before .before .before .before .before .before .before .before .before .before .before .before .before .before .before .before .before .before .before .before .before .before .before .before .before .before .before .before .before .before .before .before .before .before .args .model))) (c .before .before .before .before .before .before .before .before .before .before .before .before .before .before .before .before .before .before .before .before .before .before .before .before .before .before .before .before .before .before .before .before .before .before .pre .8)) (c .before .before .before .before .before .before .before .before .before .before .before .before .before .before .run-both .ensures .0) (c .before .before .before .before .before .before .before .before .before .before .before .before .before .before .run-both .kept .1 .1 .1 .1 .0 ∙ c .before .before .before .before .before .before .before .before .before .before .before .before .before .before .before .before .before .before .before .before .before .before .before .put-row .kept .0 ∙ c .before .before .before .before .before .before .before .before .before .before .before .before .before .before .before .before .before .before .before .before .before .before .before .before .before .before .before .before .before .before .before .before .before .before .pre .8) (c .before .before .before .before .before .before .before .measure .ensures), run-measured (c .before .before .before .before .before .before .before .before .before .before .before .before .before .before .before .before .before .before .before .before .before .before .before .before .before .before .before .before .before .before .before .before .before .before .args .d) (c .before .before .before .before .before .before .before .before .before .before .before .before .before .before .before .before .before .before .before .before .before .before .before .before .before .before .before .before .before .before .before .before .before .before .args .e) (now (c .before .before .before .before .before .before .before .before .before .before .before .before .before .before .before .before .before .before .before .before .before .before .before .before .before .before .before .before .before .before .before .before .before .before .args .other)) (now (c .before .before .before .before .before .before .before .before .before .before .before .before .before .before .before .before .before .before .before .before .before .before .before .before .before .before .before .before .before .before .before .before .before .before .args .others)) (now (c .before .before .before .before .before .before .before .before .before .before .before .before .before .before .before .before .before .before .before .before .before .before .before .before .before .before .before .before .before .before .before .before .before .before .args .sequence)) (now (c .before .before .before .before .before .before .before .before .before .before .before .before .before .before .before .before .before .before .before .before .before .before .before .before .before .before .before .before .before .before .before .before .before .before .args .also)) _ _ _ (c .before .before .before .before .before .before .before .before .before .before .before .before .before .before .before .before .before .before .before .put-row2 .ensures ∙ ap (λ (n : ℕ). take n (now (c .before .before .before .before .before .before .before .before .before .before .before .before .before .before .before .before .before .before .before .before .before .before .before .before .before .before .before .before .before .before .before .before .before .before .args .other))) (c .before .before .before .before .before .before .before .before .before .before .before .before .before .before .before .before .before .before .before .before .before .before .before .before .before .before .before .before .before .before .before .before .before .before .pre .9)) (c .before .before .before .before .before .before .before .before .before .before .before .before .before .before .run-both .ensures .1) (c .before .before .before .before .before .before .before .before .before .before .before .before .before .before .run-both .kept .1 .1 .1 .1 .1 .0 ∙ c .before .before .before .before .before .before .before .before .before .before .before .before .before .before .before .before .before .before .before .put-row2 .kept .0 ∙ c .before .before .before .before .before .before .before .before .before .before .before .before .before .before .before .before .before .before .before .before .before .before .before .before .before .before .before .before .before .before .before .before .before .before .pre .9) (c .before .before .measure2 .ensures))
+returns c =
+    let o = c .before .before .before .before .before .before .before .before .before .before .before .before .before .before .before .before .before .before .before .before .before .before .before .before .before .before .before .before .before .before .before .before .before .before in
+    let a = o .args in
+    let put-row = c .before .before .before .before .before .before .before .before .before .before .before .before .before .before .before .before .before .before .before .before .before .before .before .put-row in
+    let put-row2 = c .before .before .before .before .before .before .before .before .before .before .before .before .before .before .before .before .before .before .before .put-row2 in
+    let run-both = c .before .before .before .before .before .before .before .before .before .before .before .before .before .before .run-both in
+    (run-measured (a .d) (a .e) (now (a .model)) (now (a .columns)) (now (a .sequence)) (now (a .out)) _ _ _ (put-row .ensures ∙ ap (λ (n : ℕ). take n (now (a .model))) (o .pre .8)) (run-both .ensures .0) (run-both .kept .1 .1 .1 .1 .0 ∙ put-row .kept .0 ∙ o .pre .8) (c .before .before .before .before .before .before .before .measure .ensures), run-measured (a .d) (a .e) (now (a .other)) (now (a .others)) (now (a .sequence)) (now (a .also)) _ _ _ (put-row2 .ensures ∙ ap (λ (n : ℕ). take n (now (a .other))) (o .pre .9)) (run-both .ensures .1) (run-both .kept .1 .1 .1 .1 .1 .0 ∙ put-row2 .kept .0 ∙ o .pre .9) (c .before .before .measure2 .ensures))
 
 pub probabilities-both-of-spec : {M : Type 1} → statement M
 probabilities-both-of-spec =

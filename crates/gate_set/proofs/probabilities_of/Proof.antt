@@ -25,7 +25,11 @@ same-length-2 : tie.Need-same-length-2
 same-length-2 c = search needs
 
 returns : tie.Need-returns
-returns c = let s = c .before .before .before .before .before .before .before .before .before .before .before .before .before .before .before .before .before .before in run-measured _ (s .args .e) (now (s .args .model)) (now (s .args .columns)) (now (s .args .sequence)) (now (s .args .out)) _ _ _ (c .before .before .before .before .before .before .before .before .before .before .before .put-row .ensures) (c .before .before .before .before .before .before .before .run .ensures) (c .before .before .before .before .before .before .before .run .kept .1 .1 .1 .0 ∙ c .before .before .before .before .before .before .before .before .before .before .before .put-row .kept .0) (c .before .before .measure .ensures)
+returns c =
+    let put-row = c .before .before .before .before .before .before .before .before .before .before .before .put-row in
+    let run = c .before .before .before .before .before .before .before .run in
+    let s = c .before .before .before .before .before .before .before .before .before .before .before .before .before .before .before .before .before .before in
+    run-measured _ (s .args .e) (now (s .args .model)) (now (s .args .columns)) (now (s .args .sequence)) (now (s .args .out)) _ _ _ (put-row .ensures) (run .ensures) (run .kept .1 .1 .1 .0 ∙ put-row .kept .0) (c .before .before .measure .ensures)
 
 pub probabilities-of-spec : {M : Type 1} → statement M
 probabilities-of-spec =

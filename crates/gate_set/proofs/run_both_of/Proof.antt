@@ -21,10 +21,14 @@ abbrev μ-loop : tie.MeasureT-loop
 μ-loop columns others d sequence x₀ y₀ n m k₀ x y k = n - k
 
 mul-m : tie.Need-mul-m Inv-loop μ-loop
-mul-m c = omega (arith, mul-le-mul (c .before .before .before .before .before .pre .0) (c .before .before .before .before .before .pre .0))
+mul-m c =
+    let o = c .before .before .before .before .before in
+    omega (arith, mul-le-mul (o .pre .0) (o .pre .0))
 
 loop-holds : tie.Need-loop-holds Inv-loop μ-loop
-loop-holds c = (search needs, c .before .before .before .before .before .pre .1, c .before .before .before .before .before .pre .2, fold-none _ _, fold-none _ _)
+loop-holds c =
+    let o = c .before .before .before .before .before in
+    (search needs, o .pre .1, o .pre .2, fold-none _ _, fold-none _ _)
 
 mul-from : tie.Need-mul-from Inv-loop μ-loop
 mul-from c = search needs
@@ -51,7 +55,11 @@ part-row-times-end : tie.Need-part-row-times-end Inv-loop μ-loop
 part-row-times-end c = c .before .before .before .before .before .before .before .before .before .pre .3 (c .before .before .before .loop .k) (c .before .before .loop-test .taken)
 
 row-times-requires : tie.Need-row-times-requires Inv-loop μ-loop
-row-times-requires c κs = (c .before .before .before .before .before .before .before .before .before .before .pre .0, c .before .before .before .before .loop .inv .1, gate-lent (c .before .before .before .before .before .before .before .before .before .before .args .d) (now (c .before .before .before .before .before .before .before .before .before .before .args .columns)) (now (c .before .before .before .before .before .before .before .before .before .before .args .sequence)) (c .before .before .before .before .loop .k) (c .before .before .before .before .before .before .before .before .before .before .pre .3) (c .before .before .before .loop-test .taken))
+row-times-requires c κs =
+    let o = c .before .before .before .before .before .before .before .before .before .before in
+    let a = o .args in
+    let l = c .before .before .before .before .loop in
+    (o .pre .0, l .inv .1, gate-lent (a .d) (now (a .columns)) (now (a .sequence)) (l .k) (o .pre .3) (c .before .before .before .loop-test .taken))
 
 mul-row-times-2 : tie.Need-mul-row-times-2 Inv-loop μ-loop
 mul-row-times-2 c = omega (arith, c .before .before .before .before .before .before .before .before .before .before .before .before .before .before .pre .4 (c .before .before .before .before .before .before .before .before .loop .k) (c .before .before .before .before .before .before .before .loop-test .taken))
@@ -66,7 +74,11 @@ part-row-times-end-2 : tie.Need-part-row-times-end-2 Inv-loop μ-loop
 part-row-times-end-2 c = c .before .before .before .before .before .before .before .before .before .before .before .before .before .before .pre .4 (c .before .before .before .before .before .before .before .before .loop .k) (c .before .before .before .before .before .before .before .loop-test .taken)
 
 row-times-requires-2 : tie.Need-row-times-requires-2 Inv-loop μ-loop
-row-times-requires-2 c κs = (c .before .before .before .before .before .before .before .before .before .before .before .before .before .before .before .pre .0, c .before .before .before .before .before .before .before .before .before .loop .inv .2, gate-lent (c .before .before .before .before .before .before .before .before .before .before .before .before .before .before .before .args .d) (now (c .before .before .before .before .before .before .before .before .before .before .before .before .before .before .before .args .others)) (now (c .before .before .before .before .before .before .before .before .before .before .before .before .before .before .before .args .sequence)) (c .before .before .before .before .before .before .before .before .before .loop .k) (c .before .before .before .before .before .before .before .before .before .before .before .before .before .before .before .pre .4) (c .before .before .before .before .before .before .before .before .loop-test .taken))
+row-times-requires-2 c κs =
+    let o = c .before .before .before .before .before .before .before .before .before .before .before .before .before .before .before in
+    let a = o .args in
+    let l = c .before .before .before .before .before .before .before .before .before .loop in
+    (o .pre .0, l .inv .2, gate-lent (a .d) (now (a .others)) (now (a .sequence)) (l .k) (o .pre .4) (c .before .before .before .before .before .before .before .before .loop-test .taken))
 
 add-k : tie.Need-add-k Inv-loop μ-loop
 add-k c = search needs
@@ -75,7 +87,11 @@ loop-less : tie.Need-loop-less Inv-loop μ-loop
 loop-less c = add-one-dec _ _ (c .before .before .before .before .before .before .before .before .before .before .before .loop-test .taken)
 
 loop-again : tie.Need-loop-again Inv-loop μ-loop
-loop-again c = (add-one-le (c .before .before .before .before .before .before .before .before .before .before .before .loop-test .taken), c .before .before .before .before .before .before .x .given ∙ c .before .before .before .before .before .before .before .before .before .before .before .before .loop .inv .1, c .before .y .given ∙ c .before .before .before .before .before .before .before .before .before .before .before .before .loop .inv .2, gate-more (c .before .before .before .before .before .before .before .before .before .before .before .before .before .before .before .before .before .before .args .d) (now (c .before .before .before .before .before .before .before .before .before .before .before .before .before .before .before .before .before .before .args .columns)) (now (c .before .before .before .before .before .before .before .before .before .before .before .before .before .before .before .before .before .before .args .sequence)) (c .before .before .before .before .before .before .before .before .before .before .before .before .loop .k) (now (c .before .before .before .before .before .before .before .before .before .before .before .before .before .before .before .before .before .before .args .x)) (c .before .before .before .before .before .before .before .before .before .before .before .before .loop .x) _ (c .before .before .before .before .before .before .before .before .before .before .before .before .loop .inv .3) (c .before .before .before .before .before .before .before .row-times .ensures), gate-more (c .before .before .before .before .before .before .before .before .before .before .before .before .before .before .before .before .before .before .args .d) (now (c .before .before .before .before .before .before .before .before .before .before .before .before .before .before .before .before .before .before .args .others)) (now (c .before .before .before .before .before .before .before .before .before .before .before .before .before .before .before .before .before .before .args .sequence)) (c .before .before .before .before .before .before .before .before .before .before .before .before .loop .k) (now (c .before .before .before .before .before .before .before .before .before .before .before .before .before .before .before .before .before .before .args .y)) (c .before .before .before .before .before .before .before .before .before .before .before .before .loop .y) _ (c .before .before .before .before .before .before .before .before .before .before .before .before .loop .inv .4) (c .before .before .row-times2 .ensures))
+loop-again c =
+    let o = c .before .before .before .before .before .before .before .before .before .before .before .before .before .before .before .before .before .before in
+    let a = o .args in
+    let l = c .before .before .before .before .before .before .before .before .before .before .before .before .loop in
+    (add-one-le (c .before .before .before .before .before .before .before .before .before .before .before .loop-test .taken), c .before .before .before .before .before .before .x .given ∙ l .inv .1, c .before .y .given ∙ l .inv .2, gate-more (a .d) (now (a .columns)) (now (a .sequence)) (l .k) (now (a .x)) (l .x) _ (l .inv .3) (c .before .before .before .before .before .before .before .row-times .ensures), gate-more (a .d) (now (a .others)) (now (a .sequence)) (l .k) (now (a .y)) (l .y) _ (l .inv .4) (c .before .before .row-times2 .ensures))
 
 same-length : tie.Need-same-length Inv-loop μ-loop
 same-length c = c .before .loop .inv .1 ∙ sym (c .before .before .before .before .before .before .before .pre .1)

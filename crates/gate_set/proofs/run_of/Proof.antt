@@ -21,7 +21,9 @@ abbrev μ-loop : tie.MeasureT-loop
 μ-loop columns d sequence x₀ n m k₀ x k = n - k
 
 mul-m : tie.Need-mul-m Inv-loop μ-loop
-mul-m c = omega (arith, mul-le-mul (c .before .before .before .pre .0) (c .before .before .before .pre .0))
+mul-m c =
+    let o = c .before .before .before in
+    omega (arith, mul-le-mul (o .pre .0) (o .pre .0))
 
 loop-holds : tie.Need-loop-holds Inv-loop μ-loop
 loop-holds c = (search needs, c .before .before .before .pre .1, fold-none _ _)
@@ -51,7 +53,11 @@ part-row-times-end : tie.Need-part-row-times-end Inv-loop μ-loop
 part-row-times-end c = c .before .before .before .before .before .before .before .pre .2 (c .before .before .before .loop .k) (c .before .before .loop-test .taken)
 
 row-times-requires : tie.Need-row-times-requires Inv-loop μ-loop
-row-times-requires c κs = (c .before .before .before .before .before .before .before .before .pre .0, c .before .before .before .before .loop .inv .1, gate-lent (c .before .before .before .before .before .before .before .before .args .d) (now (c .before .before .before .before .before .before .before .before .args .columns)) (now (c .before .before .before .before .before .before .before .before .args .sequence)) (c .before .before .before .before .loop .k) (c .before .before .before .before .before .before .before .before .pre .2) (c .before .before .before .loop-test .taken))
+row-times-requires c κs =
+    let o = c .before .before .before .before .before .before .before .before in
+    let a = o .args in
+    let l = c .before .before .before .before .loop in
+    (o .pre .0, l .inv .1, gate-lent (a .d) (now (a .columns)) (now (a .sequence)) (l .k) (o .pre .2) (c .before .before .before .loop-test .taken))
 
 add-k : tie.Need-add-k Inv-loop μ-loop
 add-k c = search needs
@@ -60,7 +66,11 @@ loop-less : tie.Need-loop-less Inv-loop μ-loop
 loop-less c = add-one-dec _ _ (c .before .before .before .before .before .before .loop-test .taken)
 
 loop-again : tie.Need-loop-again Inv-loop μ-loop
-loop-again c = (add-one-le (c .before .before .before .before .before .before .loop-test .taken), c .before .x .given ∙ c .before .before .before .before .before .before .before .loop .inv .1, gate-more (c .before .before .before .before .before .before .before .before .before .before .before .args .d) (now (c .before .before .before .before .before .before .before .before .before .before .before .args .columns)) (now (c .before .before .before .before .before .before .before .before .before .before .before .args .sequence)) (c .before .before .before .before .before .before .before .loop .k) (now (c .before .before .before .before .before .before .before .before .before .before .before .args .x)) (c .before .before .before .before .before .before .before .loop .x) _ (c .before .before .before .before .before .before .before .loop .inv .2) (c .before .before .row-times .ensures))
+loop-again c =
+    let o = c .before .before .before .before .before .before .before .before .before .before .before in
+    let a = o .args in
+    let l = c .before .before .before .before .before .before .before .loop in
+    (add-one-le (c .before .before .before .before .before .before .loop-test .taken), c .before .x .given ∙ l .inv .1, gate-more (a .d) (now (a .columns)) (now (a .sequence)) (l .k) (now (a .x)) (l .x) _ (l .inv .2) (c .before .before .row-times .ensures))
 
 same-length : tie.Need-same-length Inv-loop μ-loop
 same-length c = c .before .loop .inv .1 ∙ sym (c .before .before .before .before .before .pre .1)

@@ -31,20 +31,24 @@ same-length c = search needs
 
 returns-2 : tie.Need-returns-2
 returns-2 c =
+    let threshold = c .before .before .before .before .before .threshold .ensures in
+    let invert = c .before .before .before .invert .ensures in
     let s = c .before .before .before .before .before .before .before .before .before .before in
     let t = now (s .args .transform) in
     let f = sym (c .before .before .before .before .before .before .before .all-finite .ensures) ∙ not-false _ (c .before .before .before .before .before .before .if1 .left) in
-    (regular _ _ f (ap (λ (x : Float). invertible (s .args .d) x t) (sym (c .before .before .before .before .before .threshold .ensures)) ∙ sym (c .before .before .before .invert .ensures .0) ∙ c .if2 .taken), c .before .before .before .invert .ensures .1 ∙ ap (λ (x : Float). over (inverseOf (s .args .d) x t) (now (s .args .inverse))) (c .before .before .before .before .before .threshold .ensures) ∙ ap (λ (x : List Float). over x (now (s .args .inverse))) (computed (s .args .d) t f))
+    (regular _ _ f (ap (λ (x : Float). invertible (s .args .d) x t) (sym threshold) ∙ sym (invert .0) ∙ c .if2 .taken), invert .1 ∙ ap (λ (x : Float). over (inverseOf (s .args .d) x t) (now (s .args .inverse))) threshold ∙ ap (λ (x : List Float). over x (now (s .args .inverse))) (computed (s .args .d) t f))
 
 same-length-2 : tie.Need-same-length-2
 same-length-2 c = search needs
 
 returns-3 : tie.Need-returns-3
 returns-3 c =
+    let threshold = c .before .before .before .before .before .threshold .ensures in
+    let invert = c .before .before .before .invert .ensures in
     let s = c .before .before .before .before .before .before .before .before .before .before in
     let t = now (s .args .transform) in
     let f = sym (c .before .before .before .before .before .before .before .all-finite .ensures) ∙ not-false _ (c .before .before .before .before .before .before .if1 .left) in
-    (singular _ _ f (ap (λ (x : Float). invertible (s .args .d) x t) (sym (c .before .before .before .before .before .threshold .ensures)) ∙ sym (c .before .before .before .invert .ensures .0) ∙ c .if2 .left), c .before .before .before .invert .ensures .1 ∙ ap (λ (x : Float). over (inverseOf (s .args .d) x t) (now (s .args .inverse))) (c .before .before .before .before .before .threshold .ensures) ∙ ap (λ (x : List Float). over x (now (s .args .inverse))) (computed (s .args .d) t f))
+    (singular _ _ f (ap (λ (x : Float). invertible (s .args .d) x t) (sym threshold) ∙ sym (invert .0) ∙ c .if2 .left), invert .1 ∙ ap (λ (x : Float). over (inverseOf (s .args .d) x t) (now (s .args .inverse))) threshold ∙ ap (λ (x : List Float). over x (now (s .args .inverse))) (computed (s .args .d) t f))
 
 pub invert-transform-spec : {M : Type 1} → statement M
 invert-transform-spec =

@@ -27,10 +27,14 @@ array-share-prefix-effect : tie.Need-array-share-prefix-effect
 array-share-prefix-effect c = search needs
 
 slice-aggregate-row-mat : tie.Need-slice-aggregate-row-mat
-slice-aggregate-row-mat c = let s = c .before .before .before .before .before .before .before .before in sym (front-length (effectOf (now (s .args .card)) (s .args .h) (s .args .k)) _ (c .before .before .load-effect .ensures) (length-effect _ _ _))
+slice-aggregate-row-mat c =
+    let s = c .before .before .before .before .before .before .before .before in
+    sym (front-length (effectOf (now (s .args .card)) (s .args .h) (s .args .k)) _ (c .before .before .load-effect .ensures) (length-effect _ _ _))
 
 row-mat-requires : tie.Need-row-mat-requires
-row-mat-requires c κs = let s = c .before .before .before .before .before .before .before .before .before in (s .pre .0 .limits .dimension, omega (arith, front-length (effectOf (now (s .args .card)) (s .args .h) (s .args .k)) _ (c .before .before .before .load-effect .ensures) (length-effect _ _ _)), s .pre .2, s .pre .3)
+row-mat-requires c κs =
+    let s = c .before .before .before .before .before .before .before .before .before in
+    (s .pre .0 .limits .dimension, omega (arith, front-length (effectOf (now (s .args .card)) (s .args .h) (s .args .k)) _ (c .before .before .before .load-effect .ensures) (length-effect _ _ _)), s .pre .2, s .pre .3)
 
 same-length : tie.Need-same-length
 same-length c = search needs

@@ -22,22 +22,32 @@ loop-holds : tie.Need-loop-holds Inv-loop μ-loop
 loop-holds c = (search needs, search needs, written-none _ _)
 
 mul-start : tie.Need-mul-start Inv-loop μ-loop
-mul-start c = let s = c .before .before .before .before .before in omega (arith, row-fits (c .before .loop .k) (s .args .h .effects) (s .args .h .dimension) (length (now (s .args .out))) (c .loop-test .taken) (s .pre .2))
+mul-start c =
+    let s = c .before .before .before .before .before in
+    omega (arith, row-fits (c .before .loop .k) (s .args .h .effects) (s .args .h .dimension) (length (now (s .args .out))) (c .loop-test .taken) (s .pre .2))
 
 mul-transform-effect : tie.Need-mul-transform-effect Inv-loop μ-loop
-mul-transform-effect c = let s = c .before .before .before .before .before in omega (arith, row-fits (c .before .loop .k) (s .args .h .effects) (s .args .h .dimension) (length (now (s .args .out))) (c .loop-test .taken) (s .pre .2))
+mul-transform-effect c =
+    let s = c .before .before .before .before .before in
+    omega (arith, row-fits (c .before .loop .k) (s .args .h .effects) (s .args .h .dimension) (length (now (s .args .out))) (c .loop-test .taken) (s .pre .2))
 
 sub-transform-effect : tie.Need-sub-transform-effect Inv-loop μ-loop
-sub-transform-effect c = let s = c .before .before .before .before .before in omega (arith, row-fits (c .before .loop .k) (s .args .h .effects) (s .args .h .dimension) (length (now (s .args .out))) (c .loop-test .taken) (s .pre .2))
+sub-transform-effect c =
+    let s = c .before .before .before .before .before in
+    omega (arith, row-fits (c .before .loop .k) (s .args .h .effects) (s .args .h .dimension) (length (now (s .args .out))) (c .loop-test .taken) (s .pre .2))
 
 part-transform-effect-start : tie.Need-part-transform-effect-start Inv-loop μ-loop
-part-transform-effect-start c = let s = c .before .before .before .before .before in omega (arith, row-fits (c .before .loop .k) (s .args .h .effects) (s .args .h .dimension) (length (now (s .args .out))) (c .loop-test .taken) (s .pre .2))
+part-transform-effect-start c =
+    let s = c .before .before .before .before .before in
+    omega (arith, row-fits (c .before .loop .k) (s .args .h .effects) (s .args .h .dimension) (length (now (s .args .out))) (c .loop-test .taken) (s .pre .2))
 
 part-transform-effect-end : tie.Need-part-transform-effect-end Inv-loop μ-loop
 part-transform-effect-end c = search needs
 
 transform-effect-requires : tie.Need-transform-effect-requires Inv-loop μ-loop
-transform-effect-requires c κs = let s = c .before .before .before .before .before .before in (s .pre .0, search needs, s .pre .1, simp (length-take, length-drop) (omega (arith, row-fits (c .before .before .loop .k) (s .args .h .effects) (s .args .h .dimension) (length (now (s .args .out))) (c .before .loop-test .taken) (s .pre .2))))
+transform-effect-requires c κs =
+    let s = c .before .before .before .before .before .before in
+    (s .pre .0, search needs, s .pre .1, simp (length-take, length-drop) (omega (arith, row-fits (c .before .before .loop .k) (s .args .h .effects) (s .args .h .dimension) (length (now (s .args .out))) (c .before .loop-test .taken) (s .pre .2))))
 
 add-k : tie.Need-add-k Inv-loop μ-loop
 add-k c = search needs
@@ -47,8 +57,9 @@ loop-less c = search needs
 
 loop-again : tie.Need-loop-again Inv-loop μ-loop
 loop-again c =
+    let l = c .before .before .before .before .before .loop in
     let s = c .before .before .before .before .before .before .before .before .before in
-    (search needs, search needs, written-more (newEffect (now (s .args .inverse)) (now (s .args .card)) (s .args .h)) _ (c .before .before .before .before .before .loop .k) _ _ (c .before .before .before .before .before .loop .out) _ _ (effects-length _ _ (now (s .args .inverse)) _ _) refl (c .before .before .before .before .before .loop .inv .2) refl (c .before .before .transform-effect .ensures))
+    (search needs, search needs, written-more (newEffect (now (s .args .inverse)) (now (s .args .card)) (s .args .h)) _ (l .k) _ _ (l .out) _ _ (effects-length _ _ (now (s .args .inverse)) _ _) refl (l .inv .2) refl (c .before .before .transform-effect .ensures))
 
 same-length : tie.Need-same-length Inv-loop μ-loop
 same-length c = search needs

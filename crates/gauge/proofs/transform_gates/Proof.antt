@@ -29,25 +29,46 @@ loop-holds : tie.Need-loop-holds Inv-loop μ-loop
 loop-holds c = (search needs, search needs, written-none _ _, search needs)
 
 mul-start : tie.Need-mul-start Inv-loop μ-loop
-mul-start c = let s = c .before .before .before .before .before .before .before .before in let m = c .before .before .before .square .ensures .0 in omega (arith, row-fits (c .before .loop .g) (s .args .h .gates) (c .before .before .before .square .result) (length (now (s .args .out))) (c .loop-test .taken) (rw m (s .pre .3)))
+mul-start c =
+    let square = c .before .before .before .square in
+    let s = c .before .before .before .before .before .before .before .before in
+    let m = square .ensures .0 in
+    omega (arith, row-fits (c .before .loop .g) (s .args .h .gates) (square .result) (length (now (s .args .out))) (c .loop-test .taken) (rw m (s .pre .3)))
 
 slice-aggregate-transform-gate : tie.Need-slice-aggregate-transform-gate Inv-loop μ-loop
 slice-aggregate-transform-gate c = search needs
 
 mul-transform-gate : tie.Need-mul-transform-gate Inv-loop μ-loop
-mul-transform-gate c = let s = c .before .before .before .before .before .before .before .before .before in let m = c .before .before .before .before .square .ensures .0 in omega (arith, row-fits (c .before .before .loop .g) (s .args .h .gates) (c .before .before .before .before .square .result) (length (now (s .args .out))) (c .before .loop-test .taken) (rw m (s .pre .3)))
+mul-transform-gate c =
+    let square = c .before .before .before .before .square in
+    let s = c .before .before .before .before .before .before .before .before .before in
+    let m = square .ensures .0 in
+    omega (arith, row-fits (c .before .before .loop .g) (s .args .h .gates) (square .result) (length (now (s .args .out))) (c .before .loop-test .taken) (rw m (s .pre .3)))
 
 sub-transform-gate : tie.Need-sub-transform-gate Inv-loop μ-loop
-sub-transform-gate c = let s = c .before .before .before .before .before .before .before .before .before in let m = c .before .before .before .before .square .ensures .0 in omega (arith, row-fits (c .before .before .loop .g) (s .args .h .gates) (c .before .before .before .before .square .result) (length (now (s .args .out))) (c .before .loop-test .taken) (rw m (s .pre .3)))
+sub-transform-gate c =
+    let square = c .before .before .before .before .square in
+    let s = c .before .before .before .before .before .before .before .before .before in
+    let m = square .ensures .0 in
+    omega (arith, row-fits (c .before .before .loop .g) (s .args .h .gates) (square .result) (length (now (s .args .out))) (c .before .loop-test .taken) (rw m (s .pre .3)))
 
 part-transform-gate-start : tie.Need-part-transform-gate-start Inv-loop μ-loop
-part-transform-gate-start c = let s = c .before .before .before .before .before .before .before .before .before in let m = c .before .before .before .before .square .ensures .0 in omega (arith, row-fits (c .before .before .loop .g) (s .args .h .gates) (c .before .before .before .before .square .result) (length (now (s .args .out))) (c .before .loop-test .taken) (rw m (s .pre .3)))
+part-transform-gate-start c =
+    let square = c .before .before .before .before .square in
+    let s = c .before .before .before .before .before .before .before .before .before in
+    let m = square .ensures .0 in
+    omega (arith, row-fits (c .before .before .loop .g) (s .args .h .gates) (square .result) (length (now (s .args .out))) (c .before .loop-test .taken) (rw m (s .pre .3)))
 
 part-transform-gate-end : tie.Need-part-transform-gate-end Inv-loop μ-loop
 part-transform-gate-end c = search needs
 
 transform-gate-requires : tie.Need-transform-gate-requires Inv-loop μ-loop
-transform-gate-requires c κs = let s = c .before .before .before .before .before .before .before .before .before .before in let m = c .before .before .before .before .before .square .ensures .0 in (s .pre .0, search needs, s .pre .1, s .pre .2, omega (arith, square-most (s .args .h .dimension) (s .pre .0 .limits .dimension), c .before .before .before .loop .inv .3), simp (length-take, length-drop) (omega (arith, row-fits (c .before .before .before .loop .g) (s .args .h .gates) (c .before .before .before .before .before .square .result) (length (now (s .args .out))) (c .before .before .loop-test .taken) (rw m (s .pre .3)))))
+transform-gate-requires c κs =
+    let square = c .before .before .before .before .before .square in
+    let l = c .before .before .before .loop in
+    let s = c .before .before .before .before .before .before .before .before .before .before in
+    let m = square .ensures .0 in
+    (s .pre .0, search needs, s .pre .1, s .pre .2, omega (arith, square-most (s .args .h .dimension) (s .pre .0 .limits .dimension), l .inv .3), simp (length-take, length-drop) (omega (arith, row-fits (l .g) (s .args .h .gates) (square .result) (length (now (s .args .out))) (c .before .before .loop-test .taken) (rw m (s .pre .3)))))
 
 add-g : tie.Need-add-g Inv-loop μ-loop
 add-g c = search needs
@@ -57,10 +78,11 @@ loop-less c = search needs
 
 loop-again : tie.Need-loop-again Inv-loop μ-loop
 loop-again c =
+    let l = c .before .before .before .before .before .before .before .loop in
     let s = c .before .before .before .before .before .before .before .before .before .before .before .before .before .before in
     let t = now (s .args .transform) in
     let i = now (s .args .inverse) in
-    (search needs, search needs, written-more (newGate t i (now (s .args .card)) (s .args .h)) _ (c .before .before .before .before .before .before .before .loop .g) _ _ (c .before .before .before .before .before .before .before .loop .out) _ _ (gates-length _ _ t i _ ∙ ap (λ (m : ℕ). c .before .before .before .before .before .before .before .loop .g * m) (sym (c .before .before .before .before .before .before .before .before .before .square .ensures .0))) refl (c .before .before .before .before .before .before .before .loop .inv .2) refl (c .before .before .before .transform-gate .ensures), search needs)
+    (search needs, search needs, written-more (newGate t i (now (s .args .card)) (s .args .h)) _ (l .g) _ _ (l .out) _ _ (gates-length _ _ t i _ ∙ ap (λ (m : ℕ). l .g * m) (sym (c .before .before .before .before .before .before .before .before .before .square .ensures .0))) refl (l .inv .2) refl (c .before .before .before .transform-gate .ensures), search needs)
 
 same-length : tie.Need-same-length Inv-loop μ-loop
 same-length c = search needs

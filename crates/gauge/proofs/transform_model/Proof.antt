@@ -42,13 +42,17 @@ part-transform-gates-end : tie.Need-part-transform-gates-end
 part-transform-gates-end c = search needs
 
 transform-gates-requires : tie.Need-transform-gates-requires
-transform-gates-requires c κs = let s = c .before .before .before .before .before .before .before .before .before .before .before .before .before .before in (s .pre .0, s .pre .2, s .pre .3, simp (length-take, length-drop) (omega (arith, c .before .before .before .before .before .before .before .before .before .vector-numbers .ensures .0, s .pre .4)))
+transform-gates-requires c κs =
+    let s = c .before .before .before .before .before .before .before .before .before .before .before .before .before .before in
+    (s .pre .0, s .pre .2, s .pre .3, simp (length-take, length-drop) (omega (arith, c .before .before .before .before .before .before .before .before .before .vector-numbers .ensures .0, s .pre .4)))
 
 same-length : tie.Need-same-length
 same-length c = search needs
 
 returns : tie.Need-returns
-returns c = let s = c .before .before .before .before .before .before .before .before .before .before .before .before .before .before .before .before .before in parts-written (now (s .args .transform)) (now (s .args .inverse)) (now (s .args .card)) (s .args .h) _ _ _ _ (now (s .args .work)) _ _ _ _ refl (sym (c .before .before .before .before .before .before .before .before .before .before .before .before .vector-numbers .ensures .0)) refl refl (c .before .before .before .before .before .before .before .before .before .before .transform-state .ensures) (c .before .before .before .before .before .before .transform-effects .ensures) refl (c .before .before .transform-gates .ensures)
+returns c =
+    let s = c .before .before .before .before .before .before .before .before .before .before .before .before .before .before .before .before .before in
+    parts-written (now (s .args .transform)) (now (s .args .inverse)) (now (s .args .card)) (s .args .h) _ _ _ _ (now (s .args .work)) _ _ _ _ refl (sym (c .before .before .before .before .before .before .before .before .before .before .before .before .vector-numbers .ensures .0)) refl refl (c .before .before .before .before .before .before .before .before .before .before .transform-state .ensures) (c .before .before .before .before .before .before .transform-effects .ensures) refl (c .before .before .transform-gates .ensures)
 
 pub transform-model-spec : {M : Type 1} → statement M
 transform-model-spec =

@@ -27,10 +27,14 @@ array-share-prefix-state : tie.Need-array-share-prefix-state
 array-share-prefix-state c = search needs
 
 slice-aggregate-mat-vec : tie.Need-slice-aggregate-mat-vec
-slice-aggregate-mat-vec c = let s = c .before .before .before .before .before .before .before .before in sym (front-length (stateOf (now (s .args .card)) (s .args .h)) _ (c .before .before .load-state .ensures) (length-state _ _))
+slice-aggregate-mat-vec c =
+    let s = c .before .before .before .before .before .before .before .before in
+    sym (front-length (stateOf (now (s .args .card)) (s .args .h)) _ (c .before .before .load-state .ensures) (length-state _ _))
 
 mat-vec-requires : tie.Need-mat-vec-requires
-mat-vec-requires c κs = let s = c .before .before .before .before .before .before .before .before .before in (s .pre .0 .limits .dimension, s .pre .2, omega (arith, front-length (stateOf (now (s .args .card)) (s .args .h)) _ (c .before .before .before .load-state .ensures) (length-state _ _)), s .pre .3)
+mat-vec-requires c κs =
+    let s = c .before .before .before .before .before .before .before .before .before in
+    (s .pre .0 .limits .dimension, s .pre .2, omega (arith, front-length (stateOf (now (s .args .card)) (s .args .h)) _ (c .before .before .before .load-state .ensures) (length-state _ _)), s .pre .3)
 
 same-length : tie.Need-same-length
 same-length c = search needs

@@ -20,7 +20,9 @@ slice-reshare-prefix-finite-or : tie.Need-slice-reshare-prefix-finite-or
 slice-reshare-prefix-finite-or c = search needs
 
 slice-aggregate-finite-or : tie.Need-slice-aggregate-finite-or
-slice-aggregate-finite-or c = let s = c .before .before .before .before .before .before .before .before .before .before in sym (front-length (transformed (now (s .args .transform)) (now (s .args .inverse)) (now (s .args .card)) (s .args .h)) _ (c .before .before .before .transform-model .ensures) (transformed-length _ _ _ _ ∙ sym (c .before .before .before .before .before .model-numbers .ensures .0)))
+slice-aggregate-finite-or c =
+    let s = c .before .before .before .before .before .before .before .before .before .before in
+    sym (front-length (transformed (now (s .args .transform)) (now (s .args .inverse)) (now (s .args .card)) (s .args .h)) _ (c .before .before .before .transform-model .ensures) (transformed-length _ _ _ _ ∙ sym (c .before .before .before .before .before .model-numbers .ensures .0)))
 
 finite-or-requires : tie.Need-finite-or-requires
 finite-or-requires c κs = search needs
@@ -29,7 +31,10 @@ same-length : tie.Need-same-length
 same-length c = search needs
 
 returns : tie.Need-returns
-returns c = let s = c .before .before .before .before .before .before .before .before .before .before .before in (c .finite-or .ensures ∙ ap (finiteOr NonFinite) (front-again (transformed (now (s .args .transform)) (now (s .args .inverse)) (now (s .args .card)) (s .args .h)) _ (c .before .before .before .before .transform-model .ensures) (transformed-length _ _ _ _ ∙ sym (c .before .before .before .before .before .before .model-numbers .ensures .0))), c .before .before .before .before .transform-model .ensures)
+returns c =
+    let transform-model = c .before .before .before .before .transform-model .ensures in
+    let s = c .before .before .before .before .before .before .before .before .before .before .before in
+    (c .finite-or .ensures ∙ ap (finiteOr NonFinite) (front-again (transformed (now (s .args .transform)) (now (s .args .inverse)) (now (s .args .card)) (s .args .h)) _ transform-model (transformed-length _ _ _ _ ∙ sym (c .before .before .before .before .before .before .model-numbers .ensures .0))), transform-model)
 
 pub transform-tested-spec : {M : Type 1} → statement M
 transform-tested-spec =

@@ -30,22 +30,46 @@ slice-aggregate-load-model : tie.Need-slice-aggregate-load-model
 slice-aggregate-load-model c = sym (length-take-le _ _ (omega (arith, c .before .before .before .model-numbers .ensures .1, c .before .before .model-room .ensures)))
 
 load-model-requires : tie.Need-load-model-requires
-load-model-requires c κs = (c .before .before .before .before .before .pre .0, c .before .before .before .before .before .pre .1, omega (arith, c .before .before .before .model-numbers .ensures .0, length-take-le (c .before .before .before .model-numbers .result) (c .before .before .model-room .result) (omega (arith, c .before .before .before .model-numbers .ensures .1, c .before .before .model-room .ensures))))
+load-model-requires c κs =
+    let o = c .before .before .before .before .before in
+    let model-numbers = c .before .before .before .model-numbers in
+    let model-room = c .before .before .model-room in
+    (o .pre .0, o .pre .1, omega (arith, model-numbers .ensures .0, length-take-le (model-numbers .result) (model-room .result) (omega (arith, model-numbers .ensures .1, model-room .ensures))))
 
 array-share-prefix-model : tie.Need-array-share-prefix-model
-array-share-prefix-model c = loaded-fits (numbersOf (now (c .before .before .before .before .before .before .before .args .card)) (c .before .before .before .before .before .before .before .args .h)) (c .before .before .before .before .model-room .result) _ (c .before .before .before .before .before .model-numbers .result) (length-model (now (c .before .before .before .before .before .before .before .args .card)) (c .before .before .before .before .before .before .before .args .h) ∙ sym (c .before .before .before .before .before .model-numbers .ensures .0)) (omega (arith, c .before .before .before .before .before .model-numbers .ensures .1, c .before .before .before .before .model-room .ensures)) (c .before .load-model .ensures)
+array-share-prefix-model c =
+    let o = c .before .before .before .before .before .before .before in
+    let a = o .args in
+    let model-numbers = c .before .before .before .before .before .model-numbers in
+    let model-room = c .before .before .before .before .model-room in
+    loaded-fits (numbersOf (now (a .card)) (a .h)) (model-room .result) _ (model-numbers .result) (length-model (now (a .card)) (a .h) ∙ sym (model-numbers .ensures .0)) (omega (arith, model-numbers .ensures .1, model-room .ensures)) (c .before .load-model .ensures)
 
 slice-aggregate-fit-diagnostics : tie.Need-slice-aggregate-fit-diagnostics
-slice-aggregate-fit-diagnostics c = sym (loaded-length (numbersOf (now (c .before .before .before .before .before .before .before .before .args .card)) (c .before .before .before .before .before .before .before .before .args .h)) (c .before .before .before .before .before .model-room .result) _ (c .before .before .before .before .before .before .model-numbers .result) (length-model (now (c .before .before .before .before .before .before .before .before .args .card)) (c .before .before .before .before .before .before .before .before .args .h) ∙ sym (c .before .before .before .before .before .before .model-numbers .ensures .0)) (omega (arith, c .before .before .before .before .before .before .model-numbers .ensures .1, c .before .before .before .before .before .model-room .ensures)) (c .before .before .load-model .ensures))
+slice-aggregate-fit-diagnostics c =
+    let o = c .before .before .before .before .before .before .before .before in
+    let a = o .args in
+    let model-numbers = c .before .before .before .before .before .before .model-numbers in
+    let model-room = c .before .before .before .before .before .model-room in
+    sym (loaded-length (numbersOf (now (a .card)) (a .h)) (model-room .result) _ (model-numbers .result) (length-model (now (a .card)) (a .h) ∙ sym (model-numbers .ensures .0)) (omega (arith, model-numbers .ensures .1, model-room .ensures)) (c .before .before .load-model .ensures))
 
 slice-aggregate-fit-diagnostics-2 : tie.Need-slice-aggregate-fit-diagnostics-2
 slice-aggregate-fit-diagnostics-2 c = search needs
 
 fit-diagnostics-requires : tie.Need-fit-diagnostics-requires
-fit-diagnostics-requires c κs = (c .before .before .before .before .before .before .before .before .before .pre .0, c .before .before .before .before .before .before .before .before .before .pre .2, omega (arith, c .before .before .before .before .before .before .before .model-numbers .ensures .0, loaded-length (numbersOf (now (c .before .before .before .before .before .before .before .before .before .args .card)) (c .before .before .before .before .before .before .before .before .before .args .h)) (c .before .before .before .before .before .before .model-room .result) _ (c .before .before .before .before .before .before .before .model-numbers .result) (length-model (now (c .before .before .before .before .before .before .before .before .before .args .card)) (c .before .before .before .before .before .before .before .before .before .args .h) ∙ sym (c .before .before .before .before .before .before .before .model-numbers .ensures .0)) (omega (arith, c .before .before .before .before .before .before .before .model-numbers .ensures .1, c .before .before .before .before .before .before .model-room .ensures)) (c .before .before .before .load-model .ensures)), omega (arith, gates-most (c .before .before .before .before .before .before .before .before .before .args .h) (c .before .before .before .before .before .before .before .before .before .pre .0 .limits), c .before .before .before .before .before .columns-room .ensures))
+fit-diagnostics-requires c κs =
+    let o = c .before .before .before .before .before .before .before .before .before in
+    let a = o .args in
+    let model-numbers = c .before .before .before .before .before .before .before .model-numbers in
+    let model-room = c .before .before .before .before .before .before .model-room in
+    (o .pre .0, o .pre .2, omega (arith, model-numbers .ensures .0, loaded-length (numbersOf (now (a .card)) (a .h)) (model-room .result) _ (model-numbers .result) (length-model (now (a .card)) (a .h) ∙ sym (model-numbers .ensures .0)) (omega (arith, model-numbers .ensures .1, model-room .ensures)) (c .before .before .before .load-model .ensures)), omega (arith, gates-most (a .h) (o .pre .0 .limits), c .before .before .before .before .before .columns-room .ensures))
 
 returns : tie.Need-returns
-returns c = c .before .fit-diagnostics .ensures .0 ∙ ap (λ (m : List Float). likelihoodOf true (c .before .before .before .before .before .before .before .before .before .before .before .args .tolerance) (now (c .before .before .before .before .before .before .before .before .before .before .before .args .card)) (c .before .before .before .before .before .before .before .before .before .before .before .args .h) m) (loaded-again (numbersOf (now (c .before .before .before .before .before .before .before .before .before .before .before .args .card)) (c .before .before .before .before .before .before .before .before .before .before .before .args .h)) (c .before .before .before .before .before .before .before .before .model-room .result) _ (c .before .before .before .before .before .before .before .before .before .model-numbers .result) (length-model (now (c .before .before .before .before .before .before .before .before .before .before .before .args .card)) (c .before .before .before .before .before .before .before .before .before .before .before .args .h) ∙ sym (c .before .before .before .before .before .before .before .before .before .model-numbers .ensures .0)) (omega (arith, c .before .before .before .before .before .before .before .before .before .model-numbers .ensures .1, c .before .before .before .before .before .before .before .before .model-room .ensures)) (c .before .before .before .before .before .load-model .ensures))
+returns c =
+    let o = c .before .before .before .before .before .before .before .before .before .before .before in
+    let a = o .args in
+    let model-numbers = c .before .before .before .before .before .before .before .before .before .model-numbers in
+    let model-room = c .before .before .before .before .before .before .before .before .model-room in
+    c .before .fit-diagnostics .ensures .0 ∙ ap (λ (m : List Float). likelihoodOf true (a .tolerance) (now (a .card)) (a .h) m) (loaded-again (numbersOf (now (a .card)) (a .h)) (model-room .result) _ (model-numbers .result) (length-model (now (a .card)) (a .h) ∙ sym (model-numbers .ensures .0)) (omega (arith, model-numbers .ensures .1, model-room .ensures)) (c .before .before .before .before .before .load-model .ensures))
 
 pub diagnose-spec : {M : Type 1} → statement M
 diagnose-spec =

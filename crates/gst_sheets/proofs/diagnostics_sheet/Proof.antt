@@ -32,14 +32,20 @@ tolerance-sheet-requires c κs = search needs
 
 returns : tie.Need-returns
 unfolding diagnosticsSheet
-returns c = stays _ (ap (λ (v : Verdict). after v refused (toleranceSheet (now (c .before .before .before .before .before .before .args .card)) (c .before .before .before .before .before .before .args .h) (numberAt (now (c .before .before .before .before .before .before .args .card)) 1))) (sym (c .before .found .given .1) ∙ c .before .before .before .check-model .ensures))
+returns c =
+    let o = c .before .before .before .before .before .before in
+    let a = o .args in
+    stays _ (ap (λ (v : Verdict). after v refused (toleranceSheet (now (a .card)) (a .h) (numberAt (now (a .card)) 1))) (sym (c .before .found .given .1) ∙ c .before .before .before .check-model .ensures))
 
 same-length : tie.Need-same-length
 same-length c = search needs
 
 returns-2 : tie.Need-returns-2
 unfolding diagnosticsSheet
-returns-2 c = same-outcome (ap (toleranceSheet (now (c .before .before .before .before .before .before .before .before .before .before .before .args .card)) (c .before .before .before .before .before .before .before .before .before .before .before .args .h)) (c .before .before .before .before .number-of .ensures ∙ ap number (c .before .before .before .before .before .word-at .ensures)) ∙ ap (λ (v : Verdict). after v refused (toleranceSheet (now (c .before .before .before .before .before .before .before .before .before .before .before .args .card)) (c .before .before .before .before .before .before .before .before .before .before .before .args .h) (numberAt (now (c .before .before .before .before .before .before .before .before .before .before .before .args .card)) 1))) (sym (c .before .before .before .before .before .before .enum-told .given .1) ∙ c .before .before .before .before .before .before .before .before .check-model .ensures)) (c .before .before .tolerance-sheet .ensures)
+returns-2 c =
+    let o = c .before .before .before .before .before .before .before .before .before .before .before in
+    let a = o .args in
+    same-outcome (ap (toleranceSheet (now (a .card)) (a .h)) (c .before .before .before .before .number-of .ensures ∙ ap number (c .before .before .before .before .before .word-at .ensures)) ∙ ap (λ (v : Verdict). after v refused (toleranceSheet (now (a .card)) (a .h) (numberAt (now (a .card)) 1))) (sym (c .before .before .before .before .before .before .enum-told .given .1) ∙ c .before .before .before .before .before .before .before .before .check-model .ensures)) (c .before .before .tolerance-sheet .ensures)
 
 pub diagnostics-sheet-spec : {M : Type 1} → statement M
 diagnostics-sheet-spec =

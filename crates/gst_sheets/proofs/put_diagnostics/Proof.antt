@@ -22,7 +22,9 @@ same-length : tie.Need-same-length
 same-length c = search needs
 
 returns : tie.Need-returns
-returns c = two (now (c .before .before .before .args .result)) _ _ (c .before .before .before .pre) ∙ rw (c .before .word-of .ensures, c .word-of2 .ensures)
+returns c =
+    let o = c .before .before .before in
+    two (now (o .args .result)) _ _ (o .pre) ∙ rw (c .before .word-of .ensures, c .word-of2 .ensures)
 
 pub put-diagnostics-spec : {M : Type 1} → statement M
 put-diagnostics-spec =

@@ -28,13 +28,22 @@ loop-holds : tie.Need-loop-holds Inv-loop μ-loop
 loop-holds c = (search needs, search needs, rows-none _ _ _)
 
 mul-start : tie.Need-mul-start Inv-loop μ-loop
-mul-start c = omega (arith, row-fits (c .before .loop .i) (c .before .before .before .before .args .n) (2 * c .before .before .before .before .args .n) _ (c .loop-test .taken) (le-refl (c .before .before .before .before .args .n * (2 * c .before .before .before .before .args .n))))
+mul-start c =
+    let o = c .before .before .before .before in
+    let a = o .args in
+    omega (arith, row-fits (c .before .loop .i) (a .n) (2 * a .n) _ (c .loop-test .taken) (le-refl (a .n * (2 * a .n))))
 
 add-end : tie.Need-add-end Inv-loop μ-loop
-add-end c = omega (arith, row-fits (c .before .loop .i) (c .before .before .before .before .args .n) (2 * c .before .before .before .before .args .n) _ (c .loop-test .taken) (le-refl (c .before .before .before .before .args .n * (2 * c .before .before .before .before .args .n))))
+add-end c =
+    let o = c .before .before .before .before in
+    let a = o .args in
+    omega (arith, row-fits (c .before .loop .i) (a .n) (2 * a .n) _ (c .loop-test .taken) (le-refl (a .n * (2 * a .n))))
 
 mul-beside-row : tie.Need-mul-beside-row Inv-loop μ-loop
-mul-beside-row c = omega (arith, row-fits (c .before .loop .i) (c .before .before .before .before .args .n) (2 * c .before .before .before .before .args .n) _ (c .loop-test .taken) (le-refl (c .before .before .before .before .args .n * (2 * c .before .before .before .before .args .n))))
+mul-beside-row c =
+    let o = c .before .before .before .before in
+    let a = o .args in
+    omega (arith, row-fits (c .before .loop .i) (a .n) (2 * a .n) _ (c .loop-test .taken) (le-refl (a .n * (2 * a .n))))
 
 sub-beside-row : tie.Need-sub-beside-row Inv-loop μ-loop
 sub-beside-row c = search needs
@@ -43,10 +52,17 @@ part-beside-row-start : tie.Need-part-beside-row-start Inv-loop μ-loop
 part-beside-row-start c = search needs
 
 part-beside-row-end : tie.Need-part-beside-row-end Inv-loop μ-loop
-part-beside-row-end c = omega (arith, row-fits (c .before .loop .i) (c .before .before .before .before .args .n) (2 * c .before .before .before .before .args .n) _ (c .loop-test .taken) (le-refl (c .before .before .before .before .args .n * (2 * c .before .before .before .before .args .n))))
+part-beside-row-end c =
+    let o = c .before .before .before .before in
+    let a = o .args in
+    omega (arith, row-fits (c .before .loop .i) (a .n) (2 * a .n) _ (c .loop-test .taken) (le-refl (a .n * (2 * a .n))))
 
 beside-row-requires : tie.Need-beside-row-requires Inv-loop μ-loop
-beside-row-requires c κs = (search needs, search needs, search needs, lent-long (c .before .before .loop .i * (2 * c .before .before .before .before .before .args .n)) _ (2 * c .before .before .before .before .before .args .n) (c .before .before .loop .work) refl (omega (arith, row-fits (c .before .before .loop .i) (c .before .before .before .before .before .args .n) (2 * c .before .before .before .before .before .args .n) _ (c .before .loop-test .taken) (le-refl (c .before .before .before .before .before .args .n * (2 * c .before .before .before .before .before .args .n))))))
+beside-row-requires c κs =
+    let o = c .before .before .before .before .before in
+    let a = o .args in
+    let l = c .before .before .loop in
+    (search needs, search needs, search needs, lent-long (l .i * (2 * a .n)) _ (2 * a .n) (l .work) refl (omega (arith, row-fits (l .i) (a .n) (2 * a .n) _ (c .before .loop-test .taken) (le-refl (a .n * (2 * a .n))))))
 
 add-i : tie.Need-add-i Inv-loop μ-loop
 add-i c = search needs
@@ -55,14 +71,21 @@ loop-less : tie.Need-loop-less Inv-loop μ-loop
 loop-less c = search needs
 
 loop-again : tie.Need-loop-again Inv-loop μ-loop
-loop-again c = (search needs, search needs, rows-more _ _ (c .before .before .before .before .before .loop .i) (2 * c .before .before .before .before .before .before .before .before .args .n) _ (c .before .before .before .before .before .loop .work) _ refl (c .before .before .before .before .before .loop .inv .2) (c .before .before .beside-row .ensures ∙ beside-row (c .before .before .before .before .before .before .before .before .args .n) (now (c .before .before .before .before .before .before .before .before .args .a)) (c .before .before .before .before .before .loop .i)))
+loop-again c =
+    let o = c .before .before .before .before .before .before .before .before in
+    let a = o .args in
+    let l = c .before .before .before .before .before .loop in
+    (search needs, search needs, rows-more _ _ (l .i) (2 * a .n) _ (l .work) _ refl (l .inv .2) (c .before .before .beside-row .ensures ∙ beside-row (a .n) (now (a .a)) (l .i)))
 
 same-length : tie.Need-same-length Inv-loop μ-loop
 same-length c = search needs
 
 returns : tie.Need-returns Inv-loop μ-loop
 unfolding besideIdentity
-returns c = fill-all _ _ _ _ (ap (λ (i : ℕ). i * (2 * c .before .before .before .before .args .n)) (omega arith) ∙ sym (c .before .before .before .before .pre .2)) (c .before .loop .inv .2) ∙ ap (λ (m : ℕ). build m (besideNumber (c .before .before .before .before .args .n) (now (c .before .before .before .before .args .a)))) (c .before .before .before .before .pre .2)
+returns c =
+    let o = c .before .before .before .before in
+    let a = o .args in
+    fill-all _ _ _ _ (ap (λ (i : ℕ). i * (2 * a .n)) (omega arith) ∙ sym (o .pre .2)) (c .before .loop .inv .2) ∙ ap (λ (m : ℕ). build m (besideNumber (a .n) (now (a .a)))) (o .pre .2)
 
 pub beside-identity-spec : {M : Type 1} → statement M
 beside-identity-spec =

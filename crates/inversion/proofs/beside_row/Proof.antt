@@ -11,10 +11,16 @@ use Rattle.inversion.proofs.beside_row.Statement.{statement}
 use Rattle.inversion.proofs.beside_row.Tie as tie
 
 mul-start : tie.Need-mul-start
-mul-start c = omega (arith, row-fits (c .before .before .args .i) (c .before .before .args .n) (c .before .before .args .n) _ (c .before .before .pre .1) (c .before .before .pre .2))
+mul-start c =
+    let o = c .before .before in
+    let a = o .args in
+    omega (arith, row-fits (a .i) (a .n) (a .n) _ (o .pre .1) (o .pre .2))
 
 add-end : tie.Need-add-end
-add-end c = omega (arith, row-fits (c .before .before .args .i) (c .before .before .args .n) (c .before .before .args .n) _ (c .before .before .pre .1) (c .before .before .pre .2))
+add-end c =
+    let o = c .before .before in
+    let a = o .args in
+    omega (arith, row-fits (a .i) (a .n) (a .n) _ (o .pre .1) (o .pre .2))
 
 slice-relend-prefix-put-row : tie.Need-slice-relend-prefix-put-row
 slice-relend-prefix-put-row c = search needs
@@ -23,7 +29,10 @@ slice-aggregate-put-row : tie.Need-slice-aggregate-put-row
 slice-aggregate-put-row c = sym (length-take-le _ _ (omega arith))
 
 mul-put-row : tie.Need-mul-put-row
-mul-put-row c = omega (arith, row-fits (c .before .before .before .args .i) (c .before .before .before .args .n) (c .before .before .before .args .n) _ (c .before .before .before .pre .1) (c .before .before .before .pre .2))
+mul-put-row c =
+    let o = c .before .before .before in
+    let a = o .args in
+    omega (arith, row-fits (a .i) (a .n) (a .n) _ (o .pre .1) (o .pre .2))
 
 sub-put-row : tie.Need-sub-put-row
 sub-put-row c = search needs
@@ -32,10 +41,16 @@ part-put-row-start : tie.Need-part-put-row-start
 part-put-row-start c = search needs
 
 part-put-row-end : tie.Need-part-put-row-end
-part-put-row-end c = omega (arith, row-fits (c .before .before .before .args .i) (c .before .before .before .args .n) (c .before .before .before .args .n) _ (c .before .before .before .pre .1) (c .before .before .before .pre .2))
+part-put-row-end c =
+    let o = c .before .before .before in
+    let a = o .args in
+    omega (arith, row-fits (a .i) (a .n) (a .n) _ (o .pre .1) (o .pre .2))
 
 put-row-requires : tie.Need-put-row-requires
-put-row-requires c κs = omega (arith, length-take-le (c .before .before .before .before .args .n) (now (c .before .before .before .before .args .row)) (omega arith), lent-long (c .before .before .before .before .args .i * c .before .before .before .before .args .n) (c .before .before .before .before .args .i * c .before .before .before .before .args .n + c .before .before .before .before .args .n) (c .before .before .before .before .args .n) (now (c .before .before .before .before .args .a)) refl (row-fits (c .before .before .before .before .args .i) (c .before .before .before .before .args .n) (c .before .before .before .before .args .n) _ (c .before .before .before .before .pre .1) (c .before .before .before .before .pre .2)))
+put-row-requires c κs =
+    let o = c .before .before .before .before in
+    let a = o .args in
+    omega (arith, length-take-le (a .n) (now (a .row)) (omega arith), lent-long (a .i * a .n) (a .i * a .n + a .n) (a .n) (now (a .a)) refl (row-fits (a .i) (a .n) (a .n) _ (o .pre .1) (o .pre .2)))
 
 mul-unit-row : tie.Need-mul-unit-row
 mul-unit-row c = search needs
@@ -56,7 +71,10 @@ same-length : tie.Need-same-length
 same-length c = search needs
 
 returns : tie.Need-returns
-returns c = beside-back (c .before .before .before .before .before .before .before .before .before .before .before .args .n) (c .before .before .before .before .before .before .before .before .before .before .before .args .i) _ (now (c .before .before .before .before .before .before .before .before .before .before .before .args .a)) (now (c .before .before .before .before .before .before .before .before .before .before .before .args .row)) _ _ (row-fits (c .before .before .before .before .before .before .before .before .before .before .before .args .i) (c .before .before .before .before .before .before .before .before .before .before .before .args .n) (c .before .before .before .before .before .before .before .before .before .before .before .args .n) _ (c .before .before .before .before .before .before .before .before .before .before .before .pre .1) (c .before .before .before .before .before .before .before .before .before .before .before .pre .2)) (c .before .before .before .before .before .before .before .before .before .before .before .pre .3) refl (c .before .before .before .before .before .before .put-row .ensures) (c .before .before .unit-row .ensures)
+returns c =
+    let o = c .before .before .before .before .before .before .before .before .before .before .before in
+    let a = o .args in
+    beside-back (a .n) (a .i) _ (now (a .a)) (now (a .row)) _ _ (row-fits (a .i) (a .n) (a .n) _ (o .pre .1) (o .pre .2)) (o .pre .3) refl (c .before .before .before .before .before .before .put-row .ensures) (c .before .before .unit-row .ensures)
 
 pub beside-row-spec : {M : Type 1} → statement M
 beside-row-spec =

@@ -29,7 +29,11 @@ slice-aggregate-invert-within-2 : tie.Need-slice-aggregate-invert-within-2
 slice-aggregate-invert-within-2 c = search needs
 
 invert-within-requires-2 : tie.Need-invert-within-requires-2
-invert-within-requires-2 c κs = let e : c .before .before .before .before .before .before .before .args .n * c .before .before .before .before .before .before .before .args .n ≡ 256 = ap (λ (m : ℕ). m * m) (c .before .before .if2 .taken) in (search needs, search needs, omega (arith, c .before .before .before .room .ensures), search needs)
+invert-within-requires-2 c κs =
+    let o = c .before .before .before .before .before .before .before in
+    let a = o .args in
+    let e : a .n * a .n ≡ 256 = ap (λ (m : ℕ). m * m) (c .before .before .if2 .taken) in
+    (search needs, search needs, omega (arith, c .before .before .before .room .ensures), search needs)
 
 same-length-2 : tie.Need-same-length-2
 same-length-2 c = search needs
@@ -41,7 +45,9 @@ slice-aggregate-invert-within-3 : tie.Need-slice-aggregate-invert-within-3
 slice-aggregate-invert-within-3 c = search needs
 
 invert-within-requires-3 : tie.Need-invert-within-requires-3
-invert-within-requires-3 c κs = (search needs, search needs, omega (arith, rows-most (c .before .before .before .before .before .before .before .args .n) 16 (c .before .before .before .before .before .before .before .pre .0), c .before .before .before .room .ensures), search needs)
+invert-within-requires-3 c κs =
+    let o = c .before .before .before .before .before .before .before in
+    (search needs, search needs, omega (arith, rows-most (o .args .n) 16 (o .pre .0), c .before .before .before .room .ensures), search needs)
 
 same-length-3 : tie.Need-same-length-3
 same-length-3 c = search needs

@@ -16,14 +16,20 @@ scale-of-requires c κs = search needs
 
 returns : tie.Need-returns
 unfolding ofBits
-returns c = no-inverse (c .before .before .before .before .before .args .n) (c .before .before .before .before .before .args .threshold) (now (c .before .before .before .before .before .args .a)) (now (c .before .before .before .before .before .args .out)) (all-zero _ _ _ _ (c .before .scale-of .ensures) (c .if1 .taken))
+returns c =
+    let o = c .before .before .before .before .before in
+    let a = o .args in
+    no-inverse (a .n) (a .threshold) (now (a .a)) (now (a .out)) (all-zero _ _ _ _ (c .before .scale-of .ensures) (c .if1 .taken))
 
 is-finite-requires : tie.Need-is-finite-requires
 is-finite-requires c κs = search needs
 
 returns-2 : tie.Need-returns-2
 unfolding ofBits
-returns-2 c = no-inverse (c .before .before .before .before .before .before .before .args .n) (c .before .before .before .before .before .before .before .args .threshold) (now (c .before .before .before .before .before .before .before .args .a)) (now (c .before .before .before .before .before .before .before .args .out)) (not-finite _ _ _ _ (c .before .before .before .scale-of .ensures) (c .before .before .if1 .left) (sym (ap not (c .before .is-finite .ensures)) ∙ c .if2 .taken))
+returns-2 c =
+    let o = c .before .before .before .before .before .before .before in
+    let a = o .args in
+    no-inverse (a .n) (a .threshold) (now (a .a)) (now (a .out)) (not-finite _ _ _ _ (c .before .before .before .scale-of .ensures) (c .before .before .if1 .left) (sym (ap not (c .before .is-finite .ensures)) ∙ c .if2 .taken))
 
 mul-size : tie.Need-mul-size
 mul-size c = search needs
@@ -45,7 +51,11 @@ same-length c = search needs
 
 returns-3 : tie.Need-returns-3
 unfolding ofBits
-returns-3 c = none-found (c .before .before .before .before .before .before .before .before .before .before .before .before .args .n) (c .before .before .before .before .before .before .before .before .before .before .before .before .args .threshold) (now (c .before .before .before .before .before .before .before .before .before .before .before .before .args .a)) (c .before .before .before .reduce .result) (c .before .before .before .reduce .last .1 .1 .1 .0) (now (c .before .before .before .before .before .before .before .before .before .before .before .before .args .out)) (not-true _ (c .if3 .taken)) (all-reduced _ (c .before .before .before .before .before .before .before .before .before .before .before .before .args .threshold) _ _ (c .before .before .before .before .before .before .before .before .scale-of .ensures) _ _ (c .before .before .before .before .before .before .before .if1 .left) (sym (ap not (c .before .before .before .before .before .before .is-finite .ensures)) ∙ c .before .before .before .before .before .if2 .left) (c .before .before .before .reduce .ensures))
+returns-3 c =
+    let o = c .before .before .before .before .before .before .before .before .before .before .before .before in
+    let a = o .args in
+    let reduce = c .before .before .before .reduce in
+    none-found (a .n) (a .threshold) (now (a .a)) (reduce .result) (reduce .last .1 .1 .1 .0) (now (a .out)) (not-true _ (c .if3 .taken)) (all-reduced _ (a .threshold) _ _ (c .before .before .before .before .before .before .before .before .scale-of .ensures) _ _ (c .before .before .before .before .before .before .before .if1 .left) (sym (ap not (c .before .before .before .before .before .before .is-finite .ensures)) ∙ c .before .before .before .before .before .if2 .left) (reduce .ensures))
 
 slice-reshare-prefix-right-halves : tie.Need-slice-reshare-prefix-right-halves
 slice-reshare-prefix-right-halves c = search needs
@@ -54,7 +64,9 @@ slice-aggregate-right-halves : tie.Need-slice-aggregate-right-halves
 slice-aggregate-right-halves c = sym (length-take-le _ _ (search needs))
 
 right-halves-requires : tie.Need-right-halves-requires
-right-halves-requires c κs = (search needs, lent-again (c .before .before .before .before .before .reduce .last .1 .1 .1 .0) _ _ (c .before .before .before .before .before .reduce .kept .1 .1 .1 .0 ∙ length-take-le _ _ (c .before .before .before .before .before .before .before .before .before .before .before .before .before .before .pre .2)), search needs)
+right-halves-requires c κs =
+    let reduce = c .before .before .before .before .before .reduce in
+    (search needs, lent-again (reduce .last .1 .1 .1 .0) _ _ (reduce .kept .1 .1 .1 .0 ∙ length-take-le _ _ (c .before .before .before .before .before .before .before .before .before .before .before .before .before .before .pre .2)), search needs)
 
 same-length-2 : tie.Need-same-length-2
 same-length-2 c = search needs
@@ -64,7 +76,11 @@ same-length-3 c = search needs
 
 returns-4 : tie.Need-returns-4
 unfolding ofBits
-returns-4 c = one-found (c .before .before .before .before .before .before .before .before .before .before .before .before .before .before .before .before .before .args .n) (c .before .before .before .before .before .before .before .before .before .before .before .before .before .before .before .before .before .args .threshold) (now (c .before .before .before .before .before .before .before .before .before .before .before .before .before .before .before .before .before .args .a)) (c .before .before .before .before .before .before .before .before .reduce .result) (c .before .before .before .before .before .before .before .before .reduce .last .1 .1 .1 .0) _ (now (c .before .before .before .before .before .before .before .before .before .before .before .before .before .before .before .before .before .args .out)) _ _ (not-false _ (c .before .before .before .before .before .if3 .left)) (c .before .before .before .before .before .before .before .before .reduce .kept .1 .1 .1 .0 ∙ length-take-le _ _ (c .before .before .before .before .before .before .before .before .before .before .before .before .before .before .before .before .before .pre .2)) (all-reduced _ (c .before .before .before .before .before .before .before .before .before .before .before .before .before .before .before .before .before .args .threshold) _ _ (c .before .before .before .before .before .before .before .before .before .before .before .before .before .scale-of .ensures) _ _ (c .before .before .before .before .before .before .before .before .before .before .before .before .if1 .left) (sym (ap not (c .before .before .before .before .before .before .before .before .before .before .before .is-finite .ensures)) ∙ c .before .before .before .before .before .before .before .before .before .before .if2 .left) (c .before .before .before .before .before .before .before .before .reduce .ensures)) (c .before .before .right-halves .ensures)
+returns-4 c =
+    let o = c .before .before .before .before .before .before .before .before .before .before .before .before .before .before .before .before .before in
+    let a = o .args in
+    let reduce = c .before .before .before .before .before .before .before .before .reduce in
+    one-found (a .n) (a .threshold) (now (a .a)) (reduce .result) (reduce .last .1 .1 .1 .0) _ (now (a .out)) _ _ (not-false _ (c .before .before .before .before .before .if3 .left)) (reduce .kept .1 .1 .1 .0 ∙ length-take-le _ _ (o .pre .2)) (all-reduced _ (a .threshold) _ _ (c .before .before .before .before .before .before .before .before .before .before .before .before .before .scale-of .ensures) _ _ (c .before .before .before .before .before .before .before .before .before .before .before .before .if1 .left) (sym (ap not (c .before .before .before .before .before .before .before .before .before .before .before .is-finite .ensures)) ∙ c .before .before .before .before .before .before .before .before .before .before .if2 .left) (reduce .ensures)) (c .before .before .right-halves .ensures)
 
 pub invert-within-spec : {M : Type 1} → statement M
 invert-within-spec =

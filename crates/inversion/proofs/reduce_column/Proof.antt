@@ -7,7 +7,10 @@ use Rattle.inversion.proofs.reduce_column.Statement.{statement}
 use Rattle.inversion.proofs.reduce_column.Tie as tie
 
 returns : tie.Need-returns
-returns c = has-ended (c .before .before .args .n) (c .before .before .args .limit) (c .before .before .args .k) (now (c .before .before .args .work)) (c .before .before .args .going) (not-true _ (c .if1 .taken))
+returns c =
+    let o = c .before .before in
+    let a = o .args in
+    has-ended (a .n) (a .limit) (a .k) (now (a .work)) (a .going) (not-true _ (c .if1 .taken))
 
 mul-w : tie.Need-mul-w
 mul-w c = search needs
@@ -23,9 +26,10 @@ same-length c = search needs
 
 returns-2 : tie.Need-returns-2
 returns-2 c =
+    let pivot-row = c .before .before .before .pivot-row .ensures in
     let o = c .before .before .before .before .before .before .before in
     let z = o .args in
-    ends-here (z .n) (z .limit) (z .k) (now (z .work)) (z .going) _ _ (not-false _ (c .before .before .before .before .before .if1 .left)) (o .pre .1) (c .before .before .before .pivot-row .ensures .1) (c .before .before .before .pivot-row .ensures .0) (c .before .size-at .ensures) (c .if2 .taken)
+    ends-here (z .n) (z .limit) (z .k) (now (z .work)) (z .going) _ _ (not-false _ (c .before .before .before .before .before .if1 .left)) (o .pre .1) (pivot-row .1) (pivot-row .0) (c .before .size-at .ensures) (c .if2 .taken)
 
 clear-column-requires : tie.Need-clear-column-requires
 clear-column-requires c κs = search needs
@@ -35,9 +39,10 @@ same-length-2 c = search needs
 
 returns-3 : tie.Need-returns-3
 returns-3 c =
+    let pivot-row = c .before .before .before .before .before .before .before .pivot-row .ensures in
     let o = c .before .before .before .before .before .before .before .before .before .before .before in
     let z = o .args in
-    goes-on (z .n) (z .limit) (z .k) (now (z .work)) (z .going) _ _ (not-false _ (c .before .before .before .before .before .before .before .before .before .if1 .left)) (o .pre .1) (c .before .before .before .before .before .before .before .pivot-row .ensures .1) (c .before .before .before .before .before .before .before .pivot-row .ensures .0) (c .before .before .before .before .before .size-at .ensures) _ (c .before .before .before .before .if2 .left) (c .before .before .clear-column .ensures)
+    goes-on (z .n) (z .limit) (z .k) (now (z .work)) (z .going) _ _ (not-false _ (c .before .before .before .before .before .before .before .before .before .if1 .left)) (o .pre .1) (pivot-row .1) (pivot-row .0) (c .before .before .before .before .before .size-at .ensures) _ (c .before .before .before .before .if2 .left) (c .before .before .clear-column .ensures)
 
 pub reduce-column-spec : {M : Type 1} → statement M
 reduce-column-spec =

@@ -27,22 +27,40 @@ loop-holds : tie.Need-loop-holds Inv-loop μ-loop
 loop-holds c = (search needs, search needs, rows-none _ _ _)
 
 mul-from : tie.Need-mul-from Inv-loop μ-loop
-mul-from c = omega (arith, row-fits (c .before .loop .i) (c .before .before .before .before .args .n) (2 * c .before .before .before .before .args .n) _ (c .loop-test .taken) (le-refl (c .before .before .before .before .args .n * (2 * c .before .before .before .before .args .n))))
+mul-from c =
+    let o = c .before .before .before .before in
+    let a = o .args in
+    omega (arith, row-fits (c .before .loop .i) (a .n) (2 * a .n) _ (c .loop-test .taken) (le-refl (a .n * (2 * a .n))))
 
 add-from : tie.Need-add-from Inv-loop μ-loop
-add-from c = omega (arith, row-fits (c .before .loop .i) (c .before .before .before .before .args .n) (2 * c .before .before .before .before .args .n) _ (c .loop-test .taken) (le-refl (c .before .before .before .before .args .n * (2 * c .before .before .before .before .args .n))))
+add-from c =
+    let o = c .before .before .before .before in
+    let a = o .args in
+    omega (arith, row-fits (c .before .loop .i) (a .n) (2 * a .n) _ (c .loop-test .taken) (le-refl (a .n * (2 * a .n))))
 
 add-until : tie.Need-add-until Inv-loop μ-loop
-add-until c = omega (arith, row-fits (c .before .loop .i) (c .before .before .before .before .args .n) (2 * c .before .before .before .before .args .n) _ (c .loop-test .taken) (le-refl (c .before .before .before .before .args .n * (2 * c .before .before .before .before .args .n))))
+add-until c =
+    let o = c .before .before .before .before in
+    let a = o .args in
+    omega (arith, row-fits (c .before .loop .i) (a .n) (2 * a .n) _ (c .loop-test .taken) (le-refl (a .n * (2 * a .n))))
 
 mul-start : tie.Need-mul-start Inv-loop μ-loop
-mul-start c = omega (arith, row-fits (c .before .loop .i) (c .before .before .before .before .args .n) (c .before .before .before .before .args .n) _ (c .loop-test .taken) (le-refl (c .before .before .before .before .args .n * c .before .before .before .before .args .n)))
+mul-start c =
+    let o = c .before .before .before .before in
+    let a = o .args in
+    omega (arith, row-fits (c .before .loop .i) (a .n) (a .n) _ (c .loop-test .taken) (le-refl (a .n * a .n)))
 
 add-end : tie.Need-add-end Inv-loop μ-loop
-add-end c = omega (arith, row-fits (c .before .loop .i) (c .before .before .before .before .args .n) (c .before .before .before .before .args .n) _ (c .loop-test .taken) (le-refl (c .before .before .before .before .args .n * c .before .before .before .before .args .n)))
+add-end c =
+    let o = c .before .before .before .before in
+    let a = o .args in
+    omega (arith, row-fits (c .before .loop .i) (a .n) (a .n) _ (c .loop-test .taken) (le-refl (a .n * a .n)))
 
 mul-put-row : tie.Need-mul-put-row Inv-loop μ-loop
-mul-put-row c = omega (arith, row-fits (c .before .loop .i) (c .before .before .before .before .args .n) (c .before .before .before .before .args .n) _ (c .loop-test .taken) (le-refl (c .before .before .before .before .args .n * c .before .before .before .before .args .n)))
+mul-put-row c =
+    let o = c .before .before .before .before in
+    let a = o .args in
+    omega (arith, row-fits (c .before .loop .i) (a .n) (a .n) _ (c .loop-test .taken) (le-refl (a .n * a .n)))
 
 sub-put-row : tie.Need-sub-put-row Inv-loop μ-loop
 sub-put-row c = search needs
@@ -51,10 +69,16 @@ part-put-row-start : tie.Need-part-put-row-start Inv-loop μ-loop
 part-put-row-start c = search needs
 
 part-put-row-end : tie.Need-part-put-row-end Inv-loop μ-loop
-part-put-row-end c = omega (arith, row-fits (c .before .loop .i) (c .before .before .before .before .args .n) (c .before .before .before .before .args .n) _ (c .loop-test .taken) (le-refl (c .before .before .before .before .args .n * c .before .before .before .before .args .n)))
+part-put-row-end c =
+    let o = c .before .before .before .before in
+    let a = o .args in
+    omega (arith, row-fits (c .before .loop .i) (a .n) (a .n) _ (c .loop-test .taken) (le-refl (a .n * a .n)))
 
 mul-put-row-2 : tie.Need-mul-put-row-2 Inv-loop μ-loop
-mul-put-row-2 c = omega (arith, row-fits (c .before .before .loop .i) (c .before .before .before .before .before .args .n) (2 * c .before .before .before .before .before .args .n) _ (c .before .loop-test .taken) (le-refl (c .before .before .before .before .before .args .n * (2 * c .before .before .before .before .before .args .n))))
+mul-put-row-2 c =
+    let o = c .before .before .before .before .before in
+    let a = o .args in
+    omega (arith, row-fits (c .before .before .loop .i) (a .n) (2 * a .n) _ (c .before .loop-test .taken) (le-refl (a .n * (2 * a .n))))
 
 sub-put-row-2 : tie.Need-sub-put-row-2 Inv-loop μ-loop
 sub-put-row-2 c = search needs
@@ -63,10 +87,18 @@ part-put-row-start-2 : tie.Need-part-put-row-start-2 Inv-loop μ-loop
 part-put-row-start-2 c = search needs
 
 part-put-row-end-2 : tie.Need-part-put-row-end-2 Inv-loop μ-loop
-part-put-row-end-2 c = omega (arith, row-fits (c .before .before .loop .i) (c .before .before .before .before .before .args .n) (2 * c .before .before .before .before .before .args .n) _ (c .before .loop-test .taken) (le-refl (c .before .before .before .before .before .args .n * (2 * c .before .before .before .before .before .args .n))))
+part-put-row-end-2 c =
+    let o = c .before .before .before .before .before in
+    let a = o .args in
+    omega (arith, row-fits (c .before .before .loop .i) (a .n) (2 * a .n) _ (c .before .loop-test .taken) (le-refl (a .n * (2 * a .n))))
 
 put-row-requires : tie.Need-put-row-requires Inv-loop μ-loop
-put-row-requires c κs = omega (arith, lent-long (c .before .before .before .loop .i * c .before .before .before .before .before .before .args .n) _ (c .before .before .before .before .before .before .args .n) (c .before .before .before .loop .out) refl (omega (arith, row-fits (c .before .before .before .loop .i) (c .before .before .before .before .before .before .args .n) (c .before .before .before .before .before .before .args .n) _ (c .before .before .loop-test .taken) (le-refl (c .before .before .before .before .before .before .args .n * c .before .before .before .before .before .before .args .n)))), lent-long (c .before .before .before .loop .i * (2 * c .before .before .before .before .before .before .args .n) + c .before .before .before .before .before .before .args .n) _ (c .before .before .before .before .before .before .args .n) (now (c .before .before .before .before .before .before .args .work)) refl (omega (arith, row-fits (c .before .before .before .loop .i) (c .before .before .before .before .before .before .args .n) (2 * c .before .before .before .before .before .before .args .n) _ (c .before .before .loop-test .taken) (le-refl (c .before .before .before .before .before .before .args .n * (2 * c .before .before .before .before .before .before .args .n))))))
+put-row-requires c κs =
+    let o = c .before .before .before .before .before .before in
+    let a = o .args in
+    let l = c .before .before .before .loop in
+    let loop-test = c .before .before .loop-test .taken in
+    omega (arith, lent-long (l .i * a .n) _ (a .n) (l .out) refl (omega (arith, row-fits (l .i) (a .n) (a .n) _ loop-test (le-refl (a .n * a .n)))), lent-long (l .i * (2 * a .n) + a .n) _ (a .n) (now (a .work)) refl (omega (arith, row-fits (l .i) (a .n) (2 * a .n) _ loop-test (le-refl (a .n * (2 * a .n))))))
 
 add-i : tie.Need-add-i Inv-loop μ-loop
 add-i c = search needs
@@ -75,7 +107,12 @@ loop-less : tie.Need-loop-less Inv-loop μ-loop
 loop-less c = search needs
 
 loop-again : tie.Need-loop-again Inv-loop μ-loop
-loop-again c = (search needs, search needs, rows-more _ _ (c .before .before .before .before .before .before .loop .i) (c .before .before .before .before .before .before .before .before .before .args .n) _ (c .before .before .before .before .before .before .loop .out) _ refl (c .before .before .before .before .before .before .loop .inv .2) (right-row (c .before .before .before .before .before .before .before .before .before .args .n) (c .before .before .before .before .before .before .loop .i) _ _ _ (now (c .before .before .before .before .before .before .before .before .before .args .work)) (c .before .before .before .before .before .before .loop .out) _ refl (omega (arith, row-fits (c .before .before .before .before .before .before .loop .i) (c .before .before .before .before .before .before .before .before .before .args .n) (c .before .before .before .before .before .before .before .before .before .args .n) _ (c .before .before .before .before .before .loop-test .taken) (le-refl (c .before .before .before .before .before .before .before .before .before .args .n * c .before .before .before .before .before .before .before .before .before .args .n)))) refl refl (omega (arith, row-fits (c .before .before .before .before .before .before .loop .i) (c .before .before .before .before .before .before .before .before .before .args .n) (2 * c .before .before .before .before .before .before .before .before .before .args .n) _ (c .before .before .before .before .before .loop-test .taken) (le-refl (c .before .before .before .before .before .before .before .before .before .args .n * (2 * c .before .before .before .before .before .before .before .before .before .args .n))))) (c .before .before .put-row .ensures)))
+loop-again c =
+    let o = c .before .before .before .before .before .before .before .before .before in
+    let a = o .args in
+    let l = c .before .before .before .before .before .before .loop in
+    let loop-test = c .before .before .before .before .before .loop-test .taken in
+    (search needs, search needs, rows-more _ _ (l .i) (a .n) _ (l .out) _ refl (l .inv .2) (right-row (a .n) (l .i) _ _ _ (now (a .work)) (l .out) _ refl (omega (arith, row-fits (l .i) (a .n) (a .n) _ loop-test (le-refl (a .n * a .n)))) refl refl (omega (arith, row-fits (l .i) (a .n) (2 * a .n) _ loop-test (le-refl (a .n * (2 * a .n))))) (c .before .before .put-row .ensures)))
 
 same-length : tie.Need-same-length Inv-loop μ-loop
 same-length c = search needs

@@ -20,7 +20,10 @@ same-length c = search needs
 
 returns : tie.Need-returns
 unfolding ofBits
-returns c = unit-row (now (c .before .before .before .before .before .args .row)) _ (c .before .before .before .before .before .args .i) (c .before .before .before .before .before .pre) (c .before .before .clear .ensures)
+returns c =
+    let o = c .before .before .before .before .before in
+    let a = o .args in
+    unit-row (now (a .row)) _ (a .i) (o .pre) (c .before .before .clear .ensures)
 
 pub unit-row-spec : {M : Type 1} → statement M
 unit-row-spec = tie.close (tie.spec clear-requires mul-row slice-write-row same-length returns)

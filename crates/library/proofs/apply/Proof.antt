@@ -43,8 +43,9 @@ four-to-requires c κs = omega (arith, apply-few _ _ _ (sym (c .enum-told .given
 
 emit-requires : tie.Need-emit-requires
 emit-requires c κs =
+    let four-to = c .before .before .four-to .ensures in
     let r = room-for _ _ (sym (c .before .before .before .before .before .before .before .before .before .before .has-room .ensures) ∙ not-false _ (c .before .before .before .before .before .before .before .before .before .if1 .left)) in
-    (omega (arith, c .before .before .four-to .ensures .1, r .1), omega (arith, c .before .before .four-to .ensures .1, r .0))
+    (omega (arith, four-to .1, r .1), omega (arith, four-to .1, r .0))
 
 same-length-3 : tie.Need-same-length-3
 same-length-3 c = refl
@@ -65,12 +66,15 @@ same-length-6 c = c .before .before .before .before .before .before .before .bef
 returns-3 : tie.Need-returns-3
 unfolding applyEntry
 returns-3 c =
+    let apply-within = c .before .before .before .before .before .before .before .before .before .before .apply-within .ensures in
+    let enum-told-2 = c .before .before .before .before .before .before .enum-told .given in
+    let four-to = c .before .before .before .before .before .four-to .ensures in
     let s = c .before .before .before .before .before .before .before .before .before .before .before .before .before .before .before .before .before .before .before .before in
     let n = s .args .n in
     let a = now (s .args .values) in
     let x = now (s .args .input) in
-    let f = apply-numbers n a x (sym (c .before .before .before .before .before .before .enum-told .given .1) ∙ c .before .before .before .before .before .before .before .before .before .before .apply-within .ensures .0) in
-    entry-shown _ Applied _ _ _ _ _ (sym (c .before .before .before .before .before .before .before .before .before .before .before .before .before .has-room .ensures) ∙ not-false _ (c .before .before .before .before .before .before .before .before .before .before .before .before .if1 .left)) _ (c .before .before .before .before .before .before .before .before .before .before .apply-within .ensures .0) _ (c .before .before .before .before .before .four-to .ensures .0) (c .before .before .before .before .before .before .enum-told .given .1) (emitted (matVecOf (4 ^ n) a x) _ _ _ _ _ _ (length-mat-vec _ _ _) (c .before .before .before .before .before .four-to .ensures .0) (c .before .before .before .before .before .before .before .before .before .before .apply-within .ensures .1 ∙ ap (λ (y : List Float). over y (now (s .args .work))) (sym f)) (c .before .before .emit .ensures))
+    let f = apply-numbers n a x (sym (enum-told-2 .1) ∙ apply-within .0) in
+    entry-shown _ Applied _ _ _ _ _ (sym (c .before .before .before .before .before .before .before .before .before .before .before .before .before .has-room .ensures) ∙ not-false _ (c .before .before .before .before .before .before .before .before .before .before .before .before .if1 .left)) _ (apply-within .0) _ (four-to .0) (enum-told-2 .1) (emitted (matVecOf (4 ^ n) a x) _ _ _ _ _ _ (length-mat-vec _ _ _) (four-to .0) (apply-within .1 ∙ ap (λ (y : List Float). over y (now (s .args .work))) (sym f)) (c .before .before .emit .ensures))
 
 pub apply-spec : {M : Type 1} → statement M
 apply-spec =

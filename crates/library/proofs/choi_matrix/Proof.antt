@@ -50,9 +50,10 @@ mul-emit c = search needs
 
 emit-requires : tie.Need-emit-requires
 emit-requires c κs =
+    let four-to = c .before .before .before .four-to .ensures in
     let r = room-for _ _ (sym (c .before .before .before .before .before .before .before .before .before .before .before .has-room .ensures) ∙ not-false _ (c .before .before .before .before .before .before .before .before .before .before .if1 .left)) in
     let h = parts-most _ (choi-few _ _ (sym (c .before .before .before .before .enum-told .given .1) ∙ c .before .before .before .before .before .before .before .before .choi-within .ensures .0)) in
-    let q = c .before .square .ensures .0 ∙ ap₂ _*_ (c .before .before .before .four-to .ensures .0) (c .before .before .before .four-to .ensures .0) in
+    let q = c .before .square .ensures .0 ∙ ap₂ _*_ (four-to .0) (four-to .0) in
     (omega (arith, h, q, r .1), omega (arith, h, q, r .0))
 
 same-length-3 : tie.Need-same-length-3
@@ -74,9 +75,14 @@ same-length-6 c = c .before .before .before .before .before .before .before .bef
 returns-3 : tie.Need-returns-3
 unfolding choiEntry
 returns-3 c =
-    let f = choi-numbers (c .before .before .before .before .before .before .before .before .before .before .before .before .before .before .before .before .before .before .before .before .args .n) (now (c .before .before .before .before .before .before .before .before .before .before .before .before .before .before .before .before .before .before .before .before .args .values)) (sym (c .before .before .before .before .before .before .before .enum-told .given .1) ∙ c .before .before .before .before .before .before .before .before .before .before .before .choi-within .ensures .0) in
-    let q = c .before .before .before .before .square .ensures .0 ∙ ap₂ _*_ (c .before .before .before .before .before .before .four-to .ensures .0) (c .before .before .before .before .before .before .four-to .ensures .0) in
-    entry-shown _ Choi _ _ _ _ _ (sym (c .before .before .before .before .before .before .before .before .before .before .before .before .before .before .has-room .ensures) ∙ not-false _ (c .before .before .before .before .before .before .before .before .before .before .before .before .before .if1 .left)) _ (c .before .before .before .before .before .before .before .before .before .before .before .choi-within .ensures .0) _ (c .before .before .before .before .before .before .four-to .ensures .0) (c .before .before .before .before .before .before .before .enum-told .given .1) (emitted (choiOf (c .before .before .before .before .before .before .before .before .before .before .before .before .before .before .before .before .before .before .before .before .args .n) (now (c .before .before .before .before .before .before .before .before .before .before .before .before .before .before .before .before .before .before .before .before .args .values))) _ _ _ _ _ _ (length-choi _ _) (ap (λ (m : ℕ). 2 * m) q) (c .before .before .before .before .before .before .before .before .before .before .before .choi-within .ensures .1 ∙ ap (λ (y : List Float). over y (now (c .before .before .before .before .before .before .before .before .before .before .before .before .before .before .before .before .before .before .before .before .args .work))) (sym f)) (c .before .before .emit .ensures))
+    let o = c .before .before .before .before .before .before .before .before .before .before .before .before .before .before .before .before .before .before .before .before in
+    let a = o .args in
+    let choi-within = c .before .before .before .before .before .before .before .before .before .before .before .choi-within .ensures in
+    let enum-told-2 = c .before .before .before .before .before .before .before .enum-told .given in
+    let four-to = c .before .before .before .before .before .before .four-to .ensures in
+    let f = choi-numbers (a .n) (now (a .values)) (sym (enum-told-2 .1) ∙ choi-within .0) in
+    let q = c .before .before .before .before .square .ensures .0 ∙ ap₂ _*_ (four-to .0) (four-to .0) in
+    entry-shown _ Choi _ _ _ _ _ (sym (c .before .before .before .before .before .before .before .before .before .before .before .before .before .before .has-room .ensures) ∙ not-false _ (c .before .before .before .before .before .before .before .before .before .before .before .before .before .if1 .left)) _ (choi-within .0) _ (four-to .0) (enum-told-2 .1) (emitted (choiOf (a .n) (now (a .values))) _ _ _ _ _ _ (length-choi _ _) (ap (λ (m : ℕ). 2 * m) q) (choi-within .1 ∙ ap (λ (y : List Float). over y (now (a .work))) (sym f)) (c .before .before .emit .ensures))
 
 pub choi-matrix-spec : {M : Type 1} → statement M
 choi-matrix-spec =

@@ -27,16 +27,21 @@ normalized-choi-requires c κs =
 
 returns : tie.Need-returns
 returns c =
-    let v = choi-refused (c .before .before .before .before .before .before .args .n) (now (c .before .before .before .before .before .before .args .values)) _ _ (c .before .before .before .check-qubits .ensures) (c .before .found .given .1) in
-    (v .0, ap (λ (x : List Float). over x (now (c .before .before .before .before .before .before .args .work))) (v .1))
+    let o = c .before .before .before .before .before .before in
+    let a = o .args in
+    let v = choi-refused (a .n) (now (a .values)) _ _ (c .before .before .before .check-qubits .ensures) (c .before .found .given .1) in
+    (v .0, ap (λ (x : List Float). over x (now (a .work))) (v .1))
 
 same-length : tie.Need-same-length
 same-length c = c .before .work .given
 
 returns-2 : tie.Need-returns-2
 returns-2 c =
-    let v = choi-goes-on (c .before .before .before .before .before .before .before .before .before .args .n) (now (c .before .before .before .before .before .before .before .before .before .args .values)) (sym (c .before .before .before .before .enum-told .given .1) ∙ c .before .before .before .before .before .before .check-qubits .ensures) in
-    (c .before .before .normalized-choi .ensures .0 ∙ v .0, c .before .before .normalized-choi .ensures .1 ∙ ap (λ (x : List Float). over x (now (c .before .before .before .before .before .before .before .before .before .args .work))) (v .1))
+    let o = c .before .before .before .before .before .before .before .before .before in
+    let a = o .args in
+    let normalized-choi = c .before .before .normalized-choi .ensures in
+    let v = choi-goes-on (a .n) (now (a .values)) (sym (c .before .before .before .before .enum-told .given .1) ∙ c .before .before .before .before .before .before .check-qubits .ensures) in
+    (normalized-choi .0 ∙ v .0, normalized-choi .1 ∙ ap (λ (x : List Float). over x (now (a .work))) (v .1))
 
 pub choi-within-spec : {M : Type 1} → statement M
 choi-within-spec =

@@ -44,11 +44,14 @@ probes-requires c κs =
     (few 3 _ (sym (c .before .before .enum-told .given .1) ∙ c .before .before .before .before .check-qubits .ensures), omega (arith, s .all, s .most, r .1))
 
 mul-emit : tie.Need-mul-emit
-mul-emit c = omega (arith, square (c .before .before .before .before .before .four-to .ensures .0) (c .before .before .before .before .before .four-to .ensures .1) .most)
+mul-emit c =
+    let four-to = c .before .before .before .before .before .four-to .ensures in
+    omega (arith, square (four-to .0) (four-to .1) .most)
 
 emit-requires : tie.Need-emit-requires
 emit-requires c κs =
-    let s = square (c .before .before .before .before .before .before .four-to .ensures .0) (c .before .before .before .before .before .before .four-to .ensures .1) in
+    let four-to = c .before .before .before .before .before .before .four-to .ensures in
+    let s = square (four-to .0) (four-to .1) in
     let r = room-for _ _ (sym (c .before .before .before .before .before .before .before .before .before .before .before .has-room .ensures) ∙ not-false _ (c .before .before .before .before .before .before .before .before .before .before .if1 .left)) in
     (omega (arith, s .most, r .1, c .before .before .before .before .probes .kept), omega (arith, s .most, r .0))
 
@@ -71,8 +74,9 @@ same-length-6 c = c .before .before .before .before .before .before .work .given
 returns-3 : tie.Need-returns-3
 unfolding probesEntry
 returns-3 c =
+    let four-to = c .before .before .before .before .before .before .before .before .before .four-to .ensures in
     let n = c .before .before .before .before .before .before .before .before .before .before .before .before .before .before .before .before .before .before .before .args .n in
-    entry-shown _ Probes _ _ _ _ _ (sym (c .before .before .before .before .before .before .before .before .before .before .before .before .before .before .has-room .ensures) ∙ not-false _ (c .before .before .before .before .before .before .before .before .before .before .before .before .before .if1 .left)) _ (c .before .before .before .before .before .before .before .before .before .before .before .before .check-qubits .ensures) _ (c .before .before .before .before .before .before .before .before .before .four-to .ensures .0) (c .before .before .before .before .before .before .before .before .before .before .enum-told .given .1) (emitted (probesOf n) _ _ _ _ _ _ (length-probes n) (square (c .before .before .before .before .before .before .before .before .before .four-to .ensures .0) (c .before .before .before .before .before .before .before .before .before .four-to .ensures .1) .all) (c .before .before .before .before .before .before .before .probes .ensures) (c .before .before .emit .ensures))
+    entry-shown _ Probes _ _ _ _ _ (sym (c .before .before .before .before .before .before .before .before .before .before .before .before .before .before .has-room .ensures) ∙ not-false _ (c .before .before .before .before .before .before .before .before .before .before .before .before .before .if1 .left)) _ (c .before .before .before .before .before .before .before .before .before .before .before .before .check-qubits .ensures) _ (four-to .0) (c .before .before .before .before .before .before .before .before .before .before .enum-told .given .1) (emitted (probesOf n) _ _ _ _ _ _ (length-probes n) (square (four-to .0) (four-to .1) .all) (c .before .before .before .before .before .before .before .probes .ensures) (c .before .before .emit .ensures))
 
 pub probes-spec : {M : Type 1} → statement M
 probes-spec =

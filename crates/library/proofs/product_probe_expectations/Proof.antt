@@ -19,7 +19,9 @@ same-length-2 : tie.Need-same-length-2
 same-length-2 c = c .before .work2 .given ∙ c .before .before .before .before .before .work .given
 
 returns : tie.Need-returns
-returns c = let ran = c .before .before .before .before .before .before .before .before .probes in record { gives = ran .ensures; blanked = c .before .before .clear .ensures ∙ blank-same (ran .last .1 .1 .0) (now (c .before .before .before .before .before .before .before .before .before .before .before .before .before .args .work)) (ran .kept .1 .1 .0) }
+returns c =
+    let ran = c .before .before .before .before .before .before .before .before .probes in
+    record { gives = ran .ensures; blanked = c .before .before .clear .ensures ∙ blank-same (ran .last .1 .1 .0) (now (c .before .before .before .before .before .before .before .before .before .before .before .before .before .args .work)) (ran .kept .1 .1 .0) }
 
 pub product-probe-expectations-spec : {M : Type 1} → statement M
 product-probe-expectations-spec =

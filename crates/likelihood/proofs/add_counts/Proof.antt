@@ -27,7 +27,9 @@ sub-if1 : tie.Need-sub-if1 Inv-loop μ-loop
 sub-if1 c = omega arith
 
 returns : tie.Need-returns Inv-loop μ-loop
-returns c = too-many _ _ _ (search needs) (c .before .before .before .loop .inv .2) (c .before .before .before .loop .inv .1) (c .if1 .taken)
+returns c =
+    let l = c .before .before .before .loop .inv in
+    too-many _ _ _ (search needs) (l .2) (l .1) (c .if1 .taken)
 
 add-t : tie.Need-add-t Inv-loop μ-loop
 add-t c = omega arith

@@ -39,7 +39,9 @@ loop-less : tie.Need-loop-less Inv-loop μ-loop
 loop-less c = search needs
 
 loop-again : tie.Need-loop-again Inv-loop μ-loop
-loop-again c = (search needs, fold-more _ _ _ _ _ (c .before .before .before .before .loop .inv .1) (c .either .ensures ∙ ap (λ (b : Bool). c .before .before .before .before .loop .bad || b) (c .before .is-bad .ensures)))
+loop-again c =
+    let l = c .before .before .before .before .loop in
+    (search needs, fold-more _ _ _ _ _ (l .inv .1) (c .either .ensures ∙ ap (λ (b : Bool). l .bad || b) (c .before .is-bad .ensures)))
 
 returns : tie.Need-returns Inv-loop μ-loop
 unfolding anyBad

@@ -34,13 +34,22 @@ add-j-2 : tie.Need-add-j-2 Inv-loop μ-loop
 add-j-2 c = search needs
 
 mul-look : tie.Need-mul-look Inv-loop μ-loop
-mul-look c = omega (arith, entry-fits (c .before .before .before .before .before .args .i) (c .before .before .before .before .before .args .i + 1 + c .before .loop .d) (c .before .before .before .before .before .args .n) (c .before .before .before .before .before .args .n) (c .before .before .before .before .before .pre .3) (omega arith))
+mul-look c =
+    let o = c .before .before .before .before .before in
+    let a = o .args in
+    omega (arith, entry-fits (a .i) (a .i + 1 + c .before .loop .d) (a .n) (a .n) (o .pre .3) (omega arith))
 
 add-look : tie.Need-add-look Inv-loop μ-loop
-add-look c = omega (arith, entry-fits (c .before .before .before .before .before .args .i) (c .before .before .before .before .before .args .i + 1 + c .before .loop .d) (c .before .before .before .before .before .args .n) (c .before .before .before .before .before .args .n) (c .before .before .before .before .before .pre .3) (omega arith))
+add-look c =
+    let o = c .before .before .before .before .before in
+    let a = o .args in
+    omega (arith, entry-fits (a .i) (a .i + 1 + c .before .loop .d) (a .n) (a .n) (o .pre .3) (omega arith))
 
 look-requires : tie.Need-look-requires Inv-loop μ-loop
-look-requires c κs = omega (arith, entry-fits (c .before .before .before .before .before .before .before .args .i) (c .before .before .before .before .before .before .before .args .i + 1 + c .before .before .before .loop .d) (c .before .before .before .before .before .before .before .args .n) (c .before .before .before .before .before .before .before .args .n) (c .before .before .before .before .before .before .before .pre .3) (omega arith))
+look-requires c κs =
+    let o = c .before .before .before .before .before .before .before in
+    let a = o .args in
+    omega (arith, entry-fits (a .i) (a .i + 1 + c .before .before .before .loop .d) (a .n) (a .n) (o .pre .3) (omega arith))
 
 add-d : tie.Need-add-d Inv-loop μ-loop
 add-d c = search needs

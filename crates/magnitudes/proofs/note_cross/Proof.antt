@@ -8,13 +8,22 @@ use Rattle.magnitudes.proofs.note_cross.Statement.{statement}
 use Rattle.magnitudes.proofs.note_cross.Tie as tie
 
 mul-note : tie.Need-mul-note
-mul-note c = omega (arith, entry-fits (c .before .before .before .before .args .k) (c .before .before .before .before .args .c) (c .before .before .before .before .args .n) (c .before .before .before .before .args .n) (c .before .before .before .before .pre .4) (c .before .before .before .before .pre .3))
+mul-note c =
+    let o = c .before .before .before .before in
+    let a = o .args in
+    omega (arith, entry-fits (a .k) (a .c) (a .n) (a .n) (o .pre .4) (o .pre .3))
 
 add-note : tie.Need-add-note
-add-note c = omega (arith, entry-fits (c .before .before .before .before .args .k) (c .before .before .before .before .args .c) (c .before .before .before .before .args .n) (c .before .before .before .before .args .n) (c .before .before .before .before .pre .4) (c .before .before .before .before .pre .3))
+add-note c =
+    let o = c .before .before .before .before in
+    let a = o .args in
+    omega (arith, entry-fits (a .k) (a .c) (a .n) (a .n) (o .pre .4) (o .pre .3))
 
 note-requires : tie.Need-note-requires
-note-requires c κs = omega (arith, entry-fits (c .before .before .before .before .before .before .args .k) (c .before .before .before .before .before .before .args .c) (c .before .before .before .before .before .before .args .n) (c .before .before .before .before .before .before .args .n) (c .before .before .before .before .before .before .pre .4) (c .before .before .before .before .before .before .pre .3))
+note-requires c κs =
+    let o = c .before .before .before .before .before .before in
+    let a = o .args in
+    omega (arith, entry-fits (a .k) (a .c) (a .n) (a .n) (o .pre .4) (o .pre .3))
 
 same-length : tie.Need-same-length
 same-length c = search needs
@@ -27,13 +36,22 @@ unfolding notedCross
 returns c = rw (lt-ltb _ _ (c .before .before .before .before .before .before .before .if1 .taken)) (c .before .before .before .before .note .ensures)
 
 mul-note-2 : tie.Need-mul-note-2
-mul-note-2 c = omega (arith, entry-fits (c .before .before .before .before .before .args .c) (c .before .before .before .before .before .args .k) (c .before .before .before .before .before .args .n) (c .before .before .before .before .before .args .n) (c .before .before .before .before .before .pre .3) (c .before .before .before .before .before .pre .4))
+mul-note-2 c =
+    let o = c .before .before .before .before .before in
+    let a = o .args in
+    omega (arith, entry-fits (a .c) (a .k) (a .n) (a .n) (o .pre .3) (o .pre .4))
 
 add-note-2 : tie.Need-add-note-2
-add-note-2 c = omega (arith, entry-fits (c .before .before .before .before .before .args .c) (c .before .before .before .before .before .args .k) (c .before .before .before .before .before .args .n) (c .before .before .before .before .before .args .n) (c .before .before .before .before .before .pre .3) (c .before .before .before .before .before .pre .4))
+add-note-2 c =
+    let o = c .before .before .before .before .before in
+    let a = o .args in
+    omega (arith, entry-fits (a .c) (a .k) (a .n) (a .n) (o .pre .3) (o .pre .4))
 
 note-requires-2 : tie.Need-note-requires-2
-note-requires-2 c κs = omega (arith, entry-fits (c .before .before .before .before .before .before .before .args .c) (c .before .before .before .before .before .before .before .args .k) (c .before .before .before .before .before .before .before .args .n) (c .before .before .before .before .before .before .before .args .n) (c .before .before .before .before .before .before .before .pre .3) (c .before .before .before .before .before .before .before .pre .4))
+note-requires-2 c κs =
+    let o = c .before .before .before .before .before .before .before in
+    let a = o .args in
+    omega (arith, entry-fits (a .c) (a .k) (a .n) (a .n) (o .pre .3) (o .pre .4))
 
 same-length-3 : tie.Need-same-length-3
 same-length-3 c = search needs

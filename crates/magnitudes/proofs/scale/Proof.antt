@@ -39,7 +39,9 @@ loop-less : tie.Need-loop-less Inv-loop μ-loop
 loop-less c = search needs
 
 loop-again : tie.Need-loop-again Inv-loop μ-loop
-loop-again c = (search needs, fold-more _ _ _ _ _ (c .before .before .before .loop .inv .1) (c .widen .ensures ∙ ap (λ z. widened z (c .before .before .before .loop .s)) (c .before .get .ensures)))
+loop-again c =
+    let l = c .before .before .before .loop in
+    (search needs, fold-more _ _ _ _ _ (l .inv .1) (c .widen .ensures ∙ ap (λ z. widened z (l .s)) (c .before .get .ensures)))
 
 float-from-bits-max-of : tie.Need-float-from-bits-max-of Inv-loop μ-loop
 unfolding nanBits

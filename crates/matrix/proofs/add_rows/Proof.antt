@@ -26,10 +26,16 @@ loop-holds : tie.Need-loop-holds Inv-loop μ-loop
 loop-holds c = (search needs, search needs, c .before .before .start-row .ensures ∙ ap (λ (m : ℕ). build m (λ _. minusZeroF)) (c .before .before .before .before .before .before .before .pre .3) ∙ fold-none _ _)
 
 mul-start : tie.Need-mul-start Inv-loop μ-loop
-mul-start c = omega (arith, row-fits (c .before .loop .i) (c .before .before .before .before .before .before .before .before .before .args .n) (c .before .before .before .before .before .before .before .before .before .args .n) _ (c .loop-test .taken) (c .before .before .before .before .before .before .before .before .before .pre .2))
+mul-start c =
+    let o = c .before .before .before .before .before .before .before .before .before in
+    let a = o .args in
+    omega (arith, row-fits (c .before .loop .i) (a .n) (a .n) _ (c .loop-test .taken) (o .pre .2))
 
 add-end : tie.Need-add-end Inv-loop μ-loop
-add-end c = omega (arith, row-fits (c .before .loop .i) (c .before .before .before .before .before .before .before .before .before .args .n) (c .before .before .before .before .before .before .before .before .before .args .n) _ (c .loop-test .taken) (c .before .before .before .before .before .before .before .before .before .pre .2))
+add-end c =
+    let o = c .before .before .before .before .before .before .before .before .before in
+    let a = o .args in
+    omega (arith, row-fits (c .before .loop .i) (a .n) (a .n) _ (c .loop-test .taken) (o .pre .2))
 
 mul-add-row : tie.Need-mul-add-row Inv-loop μ-loop
 mul-add-row c = search needs
@@ -38,7 +44,10 @@ shared-slice-read-add-row : tie.Need-shared-slice-read-add-row Inv-loop μ-loop
 shared-slice-read-add-row c = search needs
 
 mul-add-row-2 : tie.Need-mul-add-row-2 Inv-loop μ-loop
-mul-add-row-2 c = omega (arith, row-fits (c .before .before .before .loop .i) (c .before .before .before .before .before .before .before .before .before .before .before .args .n) (c .before .before .before .before .before .before .before .before .before .before .before .args .n) _ (c .before .before .loop-test .taken) (c .before .before .before .before .before .before .before .before .before .before .before .pre .2))
+mul-add-row-2 c =
+    let o = c .before .before .before .before .before .before .before .before .before .before .before in
+    let a = o .args in
+    omega (arith, row-fits (c .before .before .before .loop .i) (a .n) (a .n) _ (c .before .before .loop-test .taken) (o .pre .2))
 
 sub-add-row : tie.Need-sub-add-row Inv-loop μ-loop
 sub-add-row c = search needs
@@ -47,10 +56,16 @@ part-add-row-start : tie.Need-part-add-row-start Inv-loop μ-loop
 part-add-row-start c = search needs
 
 part-add-row-end : tie.Need-part-add-row-end Inv-loop μ-loop
-part-add-row-end c = omega (arith, row-fits (c .before .before .before .loop .i) (c .before .before .before .before .before .before .before .before .before .before .before .args .n) (c .before .before .before .before .before .before .before .before .before .before .before .args .n) _ (c .before .before .loop-test .taken) (c .before .before .before .before .before .before .before .before .before .before .before .pre .2))
+part-add-row-end c =
+    let o = c .before .before .before .before .before .before .before .before .before .before .before in
+    let a = o .args in
+    omega (arith, row-fits (c .before .before .before .loop .i) (a .n) (a .n) _ (c .before .before .loop-test .taken) (o .pre .2))
 
 add-row-requires : tie.Need-add-row-requires Inv-loop μ-loop
-add-row-requires c κs = omega (arith, row-long (now (c .before .before .before .before .before .before .before .before .before .before .before .before .args .a)) (c .before .before .before .before .loop .i) (c .before .before .before .before .before .before .before .before .before .before .before .before .args .n) _ refl (c .before .before .before .loop-test .taken) (c .before .before .before .before .before .before .before .before .before .before .before .before .pre .2))
+add-row-requires c κs =
+    let o = c .before .before .before .before .before .before .before .before .before .before .before .before in
+    let a = o .args in
+    omega (arith, row-long (now (a .a)) (c .before .before .before .before .loop .i) (a .n) _ refl (c .before .before .before .loop-test .taken) (o .pre .2))
 
 add-i : tie.Need-add-i Inv-loop μ-loop
 add-i c = search needs
@@ -59,13 +74,20 @@ loop-less : tie.Need-loop-less Inv-loop μ-loop
 loop-less c = search needs
 
 loop-again : tie.Need-loop-again Inv-loop μ-loop
-loop-again c = (search needs, search needs, added-more _ (now (c .before .before .before .before .before .before .before .before .before .before .before .before .before .before .before .args .x)) (now (c .before .before .before .before .before .before .before .before .before .before .before .before .before .before .before .args .a)) (c .before .before .before .before .before .before .before .loop .i) _ (c .before .before .before .before .before .before .before .loop .row) _ refl (c .before .before .before .before .before .before .before .loop .inv .1) (c .before .before .before .before .before .before .before .loop .inv .2) (c .before .before .add-row .ensures))
+loop-again c =
+    let o = c .before .before .before .before .before .before .before .before .before .before .before .before .before .before .before in
+    let a = o .args in
+    let l = c .before .before .before .before .before .before .before .loop in
+    (search needs, search needs, added-more _ (now (a .x)) (now (a .a)) (l .i) _ (l .row) _ refl (l .inv .1) (l .inv .2) (c .before .before .add-row .ensures))
 
 same-length : tie.Need-same-length Inv-loop μ-loop
 same-length c = search needs
 
 returns : tie.Need-returns Inv-loop μ-loop
-returns c = added-all _ (now (c .before .before .before .before .before .before .before .before .before .args .x)) (now (c .before .before .before .before .before .before .before .before .before .args .a)) _ _ (omega arith) (c .before .loop .inv .2)
+returns c =
+    let o = c .before .before .before .before .before .before .before .before .before in
+    let a = o .args in
+    added-all _ (now (a .x)) (now (a .a)) _ _ (omega arith) (c .before .loop .inv .2)
 
 pub add-rows-spec : {M : Type 1} → statement M
 add-rows-spec =

@@ -23,13 +23,22 @@ loop-holds : tie.Need-loop-holds Inv-loop μ-loop
 loop-holds c = (search needs, search needs, rows-none _ _ _)
 
 mul-start : tie.Need-mul-start Inv-loop μ-loop
-mul-start c = omega (arith, row-fits (c .before .loop .i) (c .before .before .before .before .before .args .n) (c .before .before .before .before .before .args .n) _ (c .loop-test .taken) (c .before .before .before .before .before .pre .1))
+mul-start c =
+    let o = c .before .before .before .before .before in
+    let a = o .args in
+    omega (arith, row-fits (c .before .loop .i) (a .n) (a .n) _ (c .loop-test .taken) (o .pre .1))
 
 add-end : tie.Need-add-end Inv-loop μ-loop
-add-end c = omega (arith, row-fits (c .before .loop .i) (c .before .before .before .before .before .args .n) (c .before .before .before .before .before .args .n) _ (c .loop-test .taken) (c .before .before .before .before .before .pre .1))
+add-end c =
+    let o = c .before .before .before .before .before in
+    let a = o .args in
+    omega (arith, row-fits (c .before .loop .i) (a .n) (a .n) _ (c .loop-test .taken) (o .pre .1))
 
 mul-sum-rows : tie.Need-mul-sum-rows Inv-loop μ-loop
-mul-sum-rows c = omega (arith, row-fits (c .before .loop .i) (c .before .before .before .before .before .args .n) (c .before .before .before .before .before .args .n) _ (c .loop-test .taken) (c .before .before .before .before .before .pre .1))
+mul-sum-rows c =
+    let o = c .before .before .before .before .before in
+    let a = o .args in
+    omega (arith, row-fits (c .before .loop .i) (a .n) (a .n) _ (c .loop-test .taken) (o .pre .1))
 
 sub-sum-rows : tie.Need-sub-sum-rows Inv-loop μ-loop
 sub-sum-rows c = search needs
@@ -38,10 +47,16 @@ part-sum-rows-start : tie.Need-part-sum-rows-start Inv-loop μ-loop
 part-sum-rows-start c = search needs
 
 part-sum-rows-end : tie.Need-part-sum-rows-end Inv-loop μ-loop
-part-sum-rows-end c = omega (arith, row-fits (c .before .loop .i) (c .before .before .before .before .before .args .n) (c .before .before .before .before .before .args .n) _ (c .loop-test .taken) (c .before .before .before .before .before .pre .1))
+part-sum-rows-end c =
+    let o = c .before .before .before .before .before in
+    let a = o .args in
+    omega (arith, row-fits (c .before .loop .i) (a .n) (a .n) _ (c .loop-test .taken) (o .pre .1))
 
 mul-sum-rows-2 : tie.Need-mul-sum-rows-2 Inv-loop μ-loop
-mul-sum-rows-2 c = omega (arith, row-fits (c .before .before .loop .i) (c .before .before .before .before .before .before .args .n) (c .before .before .before .before .before .before .args .n) _ (c .before .loop-test .taken) (c .before .before .before .before .before .before .pre .1))
+mul-sum-rows-2 c =
+    let o = c .before .before .before .before .before .before in
+    let a = o .args in
+    omega (arith, row-fits (c .before .before .loop .i) (a .n) (a .n) _ (c .before .loop-test .taken) (o .pre .1))
 
 sub-sum-rows-2 : tie.Need-sub-sum-rows-2 Inv-loop μ-loop
 sub-sum-rows-2 c = search needs
@@ -50,10 +65,18 @@ part-sum-rows-start-2 : tie.Need-part-sum-rows-start-2 Inv-loop μ-loop
 part-sum-rows-start-2 c = search needs
 
 part-sum-rows-end-2 : tie.Need-part-sum-rows-end-2 Inv-loop μ-loop
-part-sum-rows-end-2 c = omega (arith, row-fits (c .before .before .loop .i) (c .before .before .before .before .before .before .args .n) (c .before .before .before .before .before .before .args .n) _ (c .before .loop-test .taken) (c .before .before .before .before .before .before .pre .3))
+part-sum-rows-end-2 c =
+    let o = c .before .before .before .before .before .before in
+    let a = o .args in
+    omega (arith, row-fits (c .before .before .loop .i) (a .n) (a .n) _ (c .before .loop-test .taken) (o .pre .3))
 
 sum-rows-requires : tie.Need-sum-rows-requires Inv-loop μ-loop
-sum-rows-requires c κs = (search needs, omega (arith, row-long (now (c .before .before .before .before .before .before .before .args .a)) (c .before .before .before .loop .i) (c .before .before .before .before .before .before .before .args .n) _ refl (c .before .before .loop-test .taken) (c .before .before .before .before .before .before .before .pre .1)), search needs, row-long (c .before .before .before .loop .out) (c .before .before .before .loop .i) (c .before .before .before .before .before .before .before .args .n) _ refl (c .before .before .loop-test .taken) (omega arith))
+sum-rows-requires c κs =
+    let o = c .before .before .before .before .before .before .before in
+    let a = o .args in
+    let l = c .before .before .before .loop in
+    let loop-test = c .before .before .loop-test .taken in
+    (search needs, omega (arith, row-long (now (a .a)) (l .i) (a .n) _ refl loop-test (o .pre .1)), search needs, row-long (l .out) (l .i) (a .n) _ refl loop-test (omega arith))
 
 add-i : tie.Need-add-i Inv-loop μ-loop
 add-i c = search needs
@@ -62,7 +85,11 @@ loop-less : tie.Need-loop-less Inv-loop μ-loop
 loop-less c = search needs
 
 loop-again : tie.Need-loop-again Inv-loop μ-loop
-loop-again c = (search needs, search needs, rows-more _ _ (c .before .before .before .before .before .before .loop .i) (c .before .before .before .before .before .before .before .before .before .before .args .n) _ (c .before .before .before .before .before .before .loop .out) _ refl (c .before .before .before .before .before .before .loop .inv .2) (c .before .before .sum-rows .ensures ∙ product-row (c .before .before .before .before .before .before .before .before .before .before .args .n) (now (c .before .before .before .before .before .before .before .before .before .before .args .a)) (now (c .before .before .before .before .before .before .before .before .before .before .args .b)) (c .before .before .before .before .before .before .loop .i) _ refl))
+loop-again c =
+    let o = c .before .before .before .before .before .before .before .before .before .before in
+    let a = o .args in
+    let l = c .before .before .before .before .before .before .loop in
+    (search needs, search needs, rows-more _ _ (l .i) (a .n) _ (l .out) _ refl (l .inv .2) (c .before .before .sum-rows .ensures ∙ product-row (a .n) (now (a .a)) (now (a .b)) (l .i) _ refl))
 
 same-length : tie.Need-same-length Inv-loop μ-loop
 same-length c = search needs

@@ -6,7 +6,10 @@ use Rattle.matrix.proofs.mat_vec.Statement.{statement}
 use Rattle.matrix.proofs.mat_vec.Tie as tie
 
 mat-vec-of-requires : tie.Need-mat-vec-of-requires
-mat-vec-of-requires c κs = let e : c .before .before .before .before .before .args .n * c .before .before .before .before .before .args .n ≡ 256 = ap (λ (m : ℕ). m * m) (c .before .if1 .taken) in search needs
+mat-vec-of-requires c κs =
+    let o = c .before .before .before .before .before in
+    let a = o .args in
+    let e : a .n * a .n ≡ 256 = ap (λ (m : ℕ). m * m) (c .before .if1 .taken) in search needs
 
 same-length : tie.Need-same-length
 same-length c = search needs
@@ -15,7 +18,10 @@ returns : tie.Need-returns
 returns c = rw (c .before .before .before .before .if1 .taken) (c .before .before .mat-vec-of .ensures)
 
 mat-vec-of-requires-2 : tie.Need-mat-vec-of-requires-2
-mat-vec-of-requires-2 c κs = let e : c .before .before .before .before .before .before .args .n * c .before .before .before .before .before .before .args .n ≡ 16 = ap (λ (m : ℕ). m * m) (c .before .if2 .taken) in search needs
+mat-vec-of-requires-2 c κs =
+    let o = c .before .before .before .before .before .before in
+    let a = o .args in
+    let e : a .n * a .n ≡ 16 = ap (λ (m : ℕ). m * m) (c .before .if2 .taken) in search needs
 
 same-length-2 : tie.Need-same-length-2
 same-length-2 c = search needs

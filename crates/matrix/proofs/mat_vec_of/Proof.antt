@@ -1,5 +1,5 @@
 -- `matrix::mat_vec_of` meets its contract. Assumes nothing.
-use Prim.Native.Nat.{_≤_, _-_, _*_}
+use Prim.Native.Nat.{_≤_, _-_}
 use mathlib.Core.Path.{_≡_, refl, _∙_}
 use native.Mathlib.Omega.{arith}
 use denote.Ref.{now}
@@ -24,13 +24,22 @@ loop-holds : tie.Need-loop-holds Inv-loop μ-loop
 loop-holds c = (search needs, search needs, fill-none _ _)
 
 mul-start : tie.Need-mul-start Inv-loop μ-loop
-mul-start c = omega (arith, row-fits (c .before .loop .i) (c .before .before .before .before .before .args .n) (c .before .before .before .before .before .args .n) _ (c .loop-test .taken) (c .before .before .before .before .before .pre .1))
+mul-start c =
+    let o = c .before .before .before .before .before in
+    let a = o .args in
+    omega (arith, row-fits (c .before .loop .i) (a .n) (a .n) _ (c .loop-test .taken) (o .pre .1))
 
 add-end : tie.Need-add-end Inv-loop μ-loop
-add-end c = omega (arith, row-fits (c .before .loop .i) (c .before .before .before .before .before .args .n) (c .before .before .before .before .before .args .n) _ (c .loop-test .taken) (c .before .before .before .before .before .pre .1))
+add-end c =
+    let o = c .before .before .before .before .before in
+    let a = o .args in
+    omega (arith, row-fits (c .before .loop .i) (a .n) (a .n) _ (c .loop-test .taken) (o .pre .1))
 
 mul-dot : tie.Need-mul-dot Inv-loop μ-loop
-mul-dot c = omega (arith, row-fits (c .before .loop .i) (c .before .before .before .before .before .args .n) (c .before .before .before .before .before .args .n) _ (c .loop-test .taken) (c .before .before .before .before .before .pre .1))
+mul-dot c =
+    let o = c .before .before .before .before .before in
+    let a = o .args in
+    omega (arith, row-fits (c .before .loop .i) (a .n) (a .n) _ (c .loop-test .taken) (o .pre .1))
 
 sub-dot : tie.Need-sub-dot Inv-loop μ-loop
 sub-dot c = search needs
@@ -39,10 +48,16 @@ part-dot-start : tie.Need-part-dot-start Inv-loop μ-loop
 part-dot-start c = search needs
 
 part-dot-end : tie.Need-part-dot-end Inv-loop μ-loop
-part-dot-end c = omega (arith, row-fits (c .before .loop .i) (c .before .before .before .before .before .args .n) (c .before .before .before .before .before .args .n) _ (c .loop-test .taken) (c .before .before .before .before .before .pre .1))
+part-dot-end c =
+    let o = c .before .before .before .before .before in
+    let a = o .args in
+    omega (arith, row-fits (c .before .loop .i) (a .n) (a .n) _ (c .loop-test .taken) (o .pre .1))
 
 dot-requires : tie.Need-dot-requires Inv-loop μ-loop
-dot-requires c κs = omega (arith, row-long (now (c .before .before .before .before .before .before .args .a)) (c .before .before .loop .i) (c .before .before .before .before .before .before .args .n) _ refl (c .before .loop-test .taken) (c .before .before .before .before .before .before .pre .1))
+dot-requires c κs =
+    let o = c .before .before .before .before .before .before in
+    let a = o .args in
+    omega (arith, row-long (now (a .a)) (c .before .before .loop .i) (a .n) _ refl (c .before .loop-test .taken) (o .pre .1))
 
 mul-out : tie.Need-mul-out Inv-loop μ-loop
 mul-out c = search needs
@@ -57,7 +72,11 @@ loop-less : tie.Need-loop-less Inv-loop μ-loop
 loop-less c = search needs
 
 loop-again : tie.Need-loop-again Inv-loop μ-loop
-loop-again c = (search needs, search needs, fill-more _ _ _ _ _ (search needs) (c .before .before .before .loop .inv .2) (c .dot .ensures ∙ dot-row _ _ (c .before .before .before .loop .i) (c .before .before .before .before .before .before .before .args .n) _ _ refl (row-long (now (c .before .before .before .before .before .before .before .args .a)) (c .before .before .before .loop .i) (c .before .before .before .before .before .before .before .args .n) _ refl (c .before .before .loop-test .taken) (c .before .before .before .before .before .before .before .pre .1))))
+loop-again c =
+    let o = c .before .before .before .before .before .before .before in
+    let a = o .args in
+    let l = c .before .before .before .loop in
+    (search needs, search needs, fill-more _ _ _ _ _ (search needs) (l .inv .2) (c .dot .ensures ∙ dot-row _ _ (l .i) (a .n) _ _ refl (row-long (now (a .a)) (l .i) (a .n) _ refl (c .before .before .loop-test .taken) (o .pre .1))))
 
 same-length : tie.Need-same-length Inv-loop μ-loop
 same-length c = search needs

@@ -22,16 +22,24 @@ loop-holds : tie.Need-loop-holds Inv-loop μ-loop
 loop-holds c = (search needs, search needs, fill-none _ _)
 
 mul-row : tie.Need-mul-row Inv-loop μ-loop
-mul-row c = let s = c .before .before in omega (arith, entry-fits (c .before .loop .i) (s .args .j) (s .args .n) (s .args .n) (c .loop-test .taken) (s .pre .2))
+mul-row c =
+    let s = c .before .before in
+    omega (arith, entry-fits (c .before .loop .i) (s .args .j) (s .args .n) (s .args .n) (c .loop-test .taken) (s .pre .2))
 
 add-row : tie.Need-add-row Inv-loop μ-loop
-add-row c = let s = c .before .before in omega (arith, entry-fits (c .before .loop .i) (s .args .j) (s .args .n) (s .args .n) (c .loop-test .taken) (s .pre .2))
+add-row c =
+    let s = c .before .before in
+    omega (arith, entry-fits (c .before .loop .i) (s .args .j) (s .args .n) (s .args .n) (c .loop-test .taken) (s .pre .2))
 
 mul-row-2 : tie.Need-mul-row-2 Inv-loop μ-loop
-mul-row-2 c = let s = c .before .before in omega (arith, entry-fits (c .before .loop .i) (s .args .j) (s .args .n) (s .args .n) (c .loop-test .taken) (s .pre .2))
+mul-row-2 c =
+    let s = c .before .before in
+    omega (arith, entry-fits (c .before .loop .i) (s .args .j) (s .args .n) (s .args .n) (c .loop-test .taken) (s .pre .2))
 
 shared-slice-read-row : tie.Need-shared-slice-read-row Inv-loop μ-loop
-shared-slice-read-row c = let s = c .before .before .before in omega (arith, entry-fits (c .before .before .loop .i) (s .args .j) (s .args .n) (s .args .n) (c .before .loop-test .taken) (s .pre .2))
+shared-slice-read-row c =
+    let s = c .before .before .before in
+    omega (arith, entry-fits (c .before .before .loop .i) (s .args .j) (s .args .n) (s .args .n) (c .before .loop-test .taken) (s .pre .2))
 
 mul-row-3 : tie.Need-mul-row-3 Inv-loop μ-loop
 mul-row-3 c = search needs
@@ -52,7 +60,9 @@ same-length : tie.Need-same-length Inv-loop μ-loop
 same-length c = search needs
 
 returns : tie.Need-returns Inv-loop μ-loop
-returns c = let s = c .before .before in fill-all _ _ _ _ (omega arith) (c .before .loop .inv .2) ∙ ap (λ (m : ℕ). build m (λ i. at (now (s .args .a)) (i * s .args .n + s .args .j))) (s .pre .3)
+returns c =
+    let s = c .before .before in
+    fill-all _ _ _ _ (omega arith) (c .before .loop .inv .2) ∙ ap (λ (m : ℕ). build m (λ i. at (now (s .args .a)) (i * s .args .n + s .args .j))) (s .pre .3)
 
 pub put-column-spec : {M : Type 1} → statement M
 put-column-spec =

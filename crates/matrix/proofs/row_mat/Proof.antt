@@ -1,5 +1,4 @@
 -- `matrix::row_mat` meets its contract. Assumes nothing.
-use Prim.Native.Nat.{_+_}
 use mathlib.Core.Path.{ap, sym}
 use mathlib.Core.List.{List, _++_}
 use denote.Ref.{now}
@@ -23,7 +22,10 @@ same-length : tie.Need-same-length
 same-length c = search needs
 
 returns : tie.Need-returns
-returns c = ap (λ (l : List Float). l ++ drop (c .before .before .before .before .before .before .before .args .n) (now (c .before .before .before .before .before .before .before .args .out))) (c .before .before .row-mat-of .ensures)
+returns c =
+    let o = c .before .before .before .before .before .before .before in
+    let a = o .args in
+    ap (λ (l : List Float). l ++ drop (a .n) (now (a .out))) (c .before .before .row-mat-of .ensures)
 
 pub row-mat-spec : {M : Type 1} → statement M
 row-mat-spec =

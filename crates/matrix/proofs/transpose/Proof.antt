@@ -6,7 +6,10 @@ use Rattle.matrix.proofs.transpose.Statement.{statement}
 use Rattle.matrix.proofs.transpose.Tie as tie
 
 transpose-of-requires : tie.Need-transpose-of-requires
-transpose-of-requires c κs = let e : c .before .before .before .before .args .n * c .before .before .before .before .args .n ≡ 256 = ap (λ (m : ℕ). m * m) (c .before .if1 .taken) in search needs
+transpose-of-requires c κs =
+    let o = c .before .before .before .before in
+    let a = o .args in
+    let e : a .n * a .n ≡ 256 = ap (λ (m : ℕ). m * m) (c .before .if1 .taken) in search needs
 
 same-length : tie.Need-same-length
 same-length c = search needs

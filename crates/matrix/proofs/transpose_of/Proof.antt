@@ -23,13 +23,22 @@ loop-holds : tie.Need-loop-holds Inv-loop μ-loop
 loop-holds c = (search needs, search needs, rows-none _ _ _)
 
 mul-start : tie.Need-mul-start Inv-loop μ-loop
-mul-start c = omega (arith, row-fits (c .before .loop .j) (c .before .before .before .before .args .n) (c .before .before .before .before .args .n) _ (c .loop-test .taken) (c .before .before .before .before .pre .2))
+mul-start c =
+    let o = c .before .before .before .before in
+    let a = o .args in
+    omega (arith, row-fits (c .before .loop .j) (a .n) (a .n) _ (c .loop-test .taken) (o .pre .2))
 
 add-end : tie.Need-add-end Inv-loop μ-loop
-add-end c = omega (arith, row-fits (c .before .loop .j) (c .before .before .before .before .args .n) (c .before .before .before .before .args .n) _ (c .loop-test .taken) (c .before .before .before .before .pre .2))
+add-end c =
+    let o = c .before .before .before .before in
+    let a = o .args in
+    omega (arith, row-fits (c .before .loop .j) (a .n) (a .n) _ (c .loop-test .taken) (o .pre .2))
 
 mul-put-column : tie.Need-mul-put-column Inv-loop μ-loop
-mul-put-column c = omega (arith, row-fits (c .before .loop .j) (c .before .before .before .before .args .n) (c .before .before .before .before .args .n) _ (c .loop-test .taken) (c .before .before .before .before .pre .2))
+mul-put-column c =
+    let o = c .before .before .before .before in
+    let a = o .args in
+    omega (arith, row-fits (c .before .loop .j) (a .n) (a .n) _ (c .loop-test .taken) (o .pre .2))
 
 sub-put-column : tie.Need-sub-put-column Inv-loop μ-loop
 sub-put-column c = search needs
@@ -38,7 +47,10 @@ part-put-column-start : tie.Need-part-put-column-start Inv-loop μ-loop
 part-put-column-start c = search needs
 
 part-put-column-end : tie.Need-part-put-column-end Inv-loop μ-loop
-part-put-column-end c = omega (arith, row-fits (c .before .loop .j) (c .before .before .before .before .args .n) (c .before .before .before .before .args .n) _ (c .loop-test .taken) (c .before .before .before .before .pre .2))
+part-put-column-end c =
+    let o = c .before .before .before .before in
+    let a = o .args in
+    omega (arith, row-fits (c .before .loop .j) (a .n) (a .n) _ (c .loop-test .taken) (o .pre .2))
 
 put-column-requires : tie.Need-put-column-requires Inv-loop μ-loop
 put-column-requires c κs = search needs
@@ -50,7 +62,10 @@ loop-less : tie.Need-loop-less Inv-loop μ-loop
 loop-less c = search needs
 
 loop-again : tie.Need-loop-again Inv-loop μ-loop
-loop-again c = let s = c .before .before .before .before .before .before .before .before in (search needs, search needs, rows-more _ _ (c .before .before .before .before .before .loop .j) (s .args .n) _ (c .before .before .before .before .before .loop .out) _ refl (c .before .before .before .before .before .loop .inv .2) (c .before .before .put-column .ensures ∙ transposed-row (s .args .n) (now (s .args .a)) _))
+loop-again c =
+    let l = c .before .before .before .before .before .loop in
+    let s = c .before .before .before .before .before .before .before .before in
+    (search needs, search needs, rows-more _ _ (l .j) (s .args .n) _ (l .out) _ refl (l .inv .2) (c .before .before .put-column .ensures ∙ transposed-row (s .args .n) (now (s .args .a)) _))
 
 same-length : tie.Need-same-length Inv-loop μ-loop
 same-length c = search needs

@@ -17,9 +17,11 @@ fours-finite-requires c κs = search needs
 
 returns : tie.Need-returns
 returns c =
-    let s = now (c .before .before .before .args .card) in
-    let p = c .before .before .before .args .from in
-    let n = c .before .before .before .args .n in
+    let o = c .before .before .before in
+    let a = o .args in
+    let s = now (a .card) in
+    let p = a .from in
+    let n = a .n in
     run-front s p (n / 4 * 4) (n - n / 4 * 4) n (omega arith) (sym (c .before .fours-finite .ensures) ∙ not-true _ (c .if1 .taken))
 
 add-each-finite : tie.Need-add-each-finite
@@ -33,9 +35,11 @@ each-finite-requires c κs = search needs
 
 returns-2 : tie.Need-returns-2
 returns-2 c =
-    let s = now (c .before .before .before .before .args .card) in
-    let p = c .before .before .before .before .args .from in
-    let n = c .before .before .before .before .args .n in
+    let o = c .before .before .before .before in
+    let a = o .args in
+    let s = now (a .card) in
+    let p = a .from in
+    let n = a .n in
     run-on s p (n / 4 * 4) (n - n / 4 * 4) n _ (omega arith) (sym (c .before .before .fours-finite .ensures) ∙ not-false _ (c .before .if1 .left)) (c .each-finite .ensures)
 
 pub are-finite-each-spec : {M : Type 1} → statement M

@@ -28,8 +28,10 @@ effect-at-requires c κs = search needs
 
 are-finite-requires : tie.Need-are-finite-requires Inv-loop μ-loop
 are-finite-requires c κs =
+    let o = c .before .before .before .before in
+    let a = o .args in
     let k = c .before .before .loop .k in
-    omega (arith, c .effect-at .ensures, effect-in (now (c .before .before .before .before .args .card)) (c .before .before .before .before .args .h) (c .before .before .before .before .pre) k (omega arith))
+    omega (arith, c .effect-at .ensures, effect-in (now (a .card)) (a .h) (o .pre) k (omega arith))
 
 either-requires : tie.Need-either-requires Inv-loop μ-loop
 either-requires c κs = search needs
@@ -43,8 +45,10 @@ loop-less c = search needs
 loop-again : tie.Need-loop-again Inv-loop μ-loop
 unfolding effectOf
 loop-again c =
-    let s = now (c .before .before .before .before .before .before .args .card) in
-    let d = c .before .before .before .before .before .before .args .h .dimension in
+    let o = c .before .before .before .before .before .before in
+    let a = o .args in
+    let s = now (a .card) in
+    let d = a .h .dimension in
     (search needs, any-more _ _ _ _ _ _ (c .before .before .before .before .loop .inv .1) (c .either .ensures) (ap not (c .before .are-finite .ensures ∙ ap (λ (p : ℕ). allFinite (numbersAt s p d)) (c .before .before .effect-at .ensures))))
 
 returns : tie.Need-returns Inv-loop μ-loop

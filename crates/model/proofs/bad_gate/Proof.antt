@@ -32,7 +32,10 @@ gate-at-requires : tie.Need-gate-at-requires Inv-loop μ-loop
 gate-at-requires c κs = search needs
 
 are-finite-requires : tie.Need-are-finite-requires Inv-loop μ-loop
-are-finite-requires c κs = omega (arith, c .gate-at .ensures, c .before .before .before .before .square .ensures .0, gate-in (now (c .before .before .before .before .before .before .args .card)) (c .before .before .before .before .before .before .args .h) (c .before .before .before .before .before .before .pre) (c .before .before .loop .g) (omega arith))
+are-finite-requires c κs =
+    let o = c .before .before .before .before .before .before in
+    let a = o .args in
+    omega (arith, c .gate-at .ensures, c .before .before .before .before .square .ensures .0, gate-in (now (a .card)) (a .h) (o .pre) (c .before .before .loop .g) (omega arith))
 
 either-requires : tie.Need-either-requires Inv-loop μ-loop
 either-requires c κs = search needs

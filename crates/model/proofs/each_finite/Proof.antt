@@ -34,12 +34,15 @@ is-finite-word-requires c κs = search needs
 
 returns : tie.Need-returns Inv-loop μ-loop
 returns c =
-    let s = now (c .before .before .before .before .before .before .args .card) in
-    let f = c .before .before .before .before .before .before .args .from in
-    let n = c .before .before .before .before .before .before .args .n in
-    let i = c .before .before .before .before .loop .i in
+    let o = c .before .before .before .before .before .before in
+    let a = o .args in
+    let l = c .before .before .before .before .loop in
+    let s = now (a .card) in
+    let f = a .from in
+    let n = a .n in
+    let i = l .i in
     let h : i < n = omega arith in
-    finite-stop (numbersAt s f n) i (omega (arith, length-numbers s f n)) (c .before .before .before .before .loop .inv .1) (ap finite (number-at s f n i h ∙ sym (ap number (c .before .before .word-at .ensures))) ∙ sym (c .before .is-finite-word .ensures) ∙ not-true _ (c .if1 .taken))
+    finite-stop (numbersAt s f n) i (omega (arith, length-numbers s f n)) (l .inv .1) (ap finite (number-at s f n i h ∙ sym (ap number (c .before .before .word-at .ensures))) ∙ sym (c .before .is-finite-word .ensures) ∙ not-true _ (c .if1 .taken))
 
 add-i : tie.Need-add-i Inv-loop μ-loop
 add-i c = search needs
@@ -49,17 +52,22 @@ loop-less c = search needs
 
 loop-again : tie.Need-loop-again Inv-loop μ-loop
 loop-again c =
-    let s = now (c .before .before .before .before .before .before .args .card) in
-    let f = c .before .before .before .before .before .before .args .from in
-    let n = c .before .before .before .before .before .before .args .n in
-    let i = c .before .before .before .before .loop .i in
+    let o = c .before .before .before .before .before .before in
+    let a = o .args in
+    let l = c .before .before .before .before .loop in
+    let s = now (a .card) in
+    let f = a .from in
+    let n = a .n in
+    let i = l .i in
     let h : i < n = omega arith in
-    (search needs, finite-on (numbersAt s f n) i (omega (arith, length-numbers s f n)) (c .before .before .before .before .loop .inv .1) (ap finite (number-at s f n i h ∙ sym (ap number (c .before .before .word-at .ensures))) ∙ sym (c .before .is-finite-word .ensures) ∙ not-false _ (c .if1 .left)))
+    (search needs, finite-on (numbersAt s f n) i (omega (arith, length-numbers s f n)) (l .inv .1) (ap finite (number-at s f n i h ∙ sym (ap number (c .before .before .word-at .ensures))) ∙ sym (c .before .is-finite-word .ensures) ∙ not-false _ (c .if1 .left)))
 
 returns-2 : tie.Need-returns-2 Inv-loop μ-loop
 returns-2 c =
-    let s = now (c .before .before .before .args .card) in
-    finite-end (numbersAt s (c .before .before .before .args .from) (c .before .before .before .args .n)) (c .before .loop .i) (omega (arith, length-numbers s (c .before .before .before .args .from) (c .before .before .before .args .n))) (c .before .loop .inv .1)
+    let o = c .before .before .before in
+    let a = o .args in
+    let s = now (a .card) in
+    finite-end (numbersAt s (a .from) (a .n)) (c .before .loop .i) (omega (arith, length-numbers s (a .from) (a .n))) (c .before .loop .inv .1)
 
 pub each-finite-spec : {M : Type 1} → statement M
 each-finite-spec =

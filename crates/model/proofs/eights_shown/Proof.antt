@@ -41,9 +41,10 @@ loop-less c = search needs
 
 loop-again : tie.Need-loop-again Inv-loop μ-loop
 loop-again c =
+    let l = c .before .before .before .loop in
     let z = c .before .before .before .before .before .args in
-    let i = c .before .before .before .loop .i in
-    (search needs, run-on (now (z .card)) (z .from) (i * 8) 8 _ true (omega arith) (sym (c .before .before .before .loop .inv .1)) (c .before .eight-shown .ensures (not-false _ (c .if1 .left))))
+    let i = l .i in
+    (search needs, run-on (now (z .card)) (z .from) (i * 8) 8 _ true (omega arith) (sym (l .inv .1)) (c .before .eight-shown .ensures (not-false _ (c .if1 .left))))
 
 returns-2 : tie.Need-returns-2 Inv-loop μ-loop
 returns-2 c =

@@ -32,8 +32,10 @@ four-finite-requires c κs = search needs
 
 returns : tie.Need-returns Inv-loop μ-loop
 returns c =
-    let s = now (c .before .before .before .before .before .args .card) in
-    let p = c .before .before .before .before .before .args .from in
+    let o = c .before .before .before .before .before in
+    let a = o .args in
+    let s = now (a .card) in
+    let p = a .from in
     let i = c .before .before .before .loop .i in
     run-stop s p (i * 4) 4 _ (omega arith) (sym (c .before .four-finite .ensures) ∙ not-true _ (c .if1 .taken))
 
@@ -45,15 +47,20 @@ loop-less c = search needs
 
 loop-again : tie.Need-loop-again Inv-loop μ-loop
 loop-again c =
-    let s = now (c .before .before .before .before .before .args .card) in
-    let p = c .before .before .before .before .before .args .from in
-    let i = c .before .before .before .loop .i in
-    (search needs, run-on s p (i * 4) 4 _ true (omega arith) (sym (c .before .before .before .loop .inv .1)) (sym (sym (c .before .four-finite .ensures) ∙ not-false _ (c .if1 .left))))
+    let o = c .before .before .before .before .before in
+    let a = o .args in
+    let l = c .before .before .before .loop in
+    let s = now (a .card) in
+    let p = a .from in
+    let i = l .i in
+    (search needs, run-on s p (i * 4) 4 _ true (omega arith) (sym (l .inv .1)) (sym (sym (c .before .four-finite .ensures) ∙ not-false _ (c .if1 .left))))
 
 returns-2 : tie.Need-returns-2 Inv-loop μ-loop
 returns-2 c =
-    let k : c .before .loop .i ≡ c .before .before .before .args .count = omega arith in
-    c .before .loop .inv .1 ∙ ap (λ (i : ℕ). allFinite (numbersAt (now (c .before .before .before .args .card)) (c .before .before .before .args .from) (i * 4))) k
+    let o = c .before .before .before in
+    let a = o .args in
+    let k : c .before .loop .i ≡ a .count = omega arith in
+    c .before .loop .inv .1 ∙ ap (λ (i : ℕ). allFinite (numbersAt (now (a .card)) (a .from) (i * 4))) k
 
 pub fours-finite-spec : {M : Type 1} → statement M
 fours-finite-spec =

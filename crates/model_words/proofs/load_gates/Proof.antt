@@ -26,22 +26,42 @@ loop-holds : tie.Need-loop-holds Inv-loop μ-loop
 loop-holds c = (search needs, search needs, written-none _ _)
 
 mul-start : tie.Need-mul-start Inv-loop μ-loop
-mul-start c = omega (arith, row-fits (c .before .loop .g) (c .before .before .before .before .before .args .h .gates) (c .before .before .square .result) (length (now (c .before .before .before .before .before .args .out))) (c .loop-test .taken) (rw (c .before .before .square .ensures .0) (c .before .before .before .before .before .pre .1)))
+mul-start c =
+    let o = c .before .before .before .before .before in
+    let a = o .args in
+    let square = c .before .before .square in
+    omega (arith, row-fits (c .before .loop .g) (a .h .gates) (square .result) (length (now (a .out))) (c .loop-test .taken) (rw (square .ensures .0) (o .pre .1)))
 
 mul-load-gate : tie.Need-mul-load-gate Inv-loop μ-loop
-mul-load-gate c = omega (arith, row-fits (c .before .loop .g) (c .before .before .before .before .before .args .h .gates) (c .before .before .square .result) (length (now (c .before .before .before .before .before .args .out))) (c .loop-test .taken) (rw (c .before .before .square .ensures .0) (c .before .before .before .before .before .pre .1)))
+mul-load-gate c =
+    let o = c .before .before .before .before .before in
+    let a = o .args in
+    let square = c .before .before .square in
+    omega (arith, row-fits (c .before .loop .g) (a .h .gates) (square .result) (length (now (a .out))) (c .loop-test .taken) (rw (square .ensures .0) (o .pre .1)))
 
 sub-load-gate : tie.Need-sub-load-gate Inv-loop μ-loop
-sub-load-gate c = omega (arith, row-fits (c .before .loop .g) (c .before .before .before .before .before .args .h .gates) (c .before .before .square .result) (length (now (c .before .before .before .before .before .args .out))) (c .loop-test .taken) (rw (c .before .before .square .ensures .0) (c .before .before .before .before .before .pre .1)))
+sub-load-gate c =
+    let o = c .before .before .before .before .before in
+    let a = o .args in
+    let square = c .before .before .square in
+    omega (arith, row-fits (c .before .loop .g) (a .h .gates) (square .result) (length (now (a .out))) (c .loop-test .taken) (rw (square .ensures .0) (o .pre .1)))
 
 part-load-gate-start : tie.Need-part-load-gate-start Inv-loop μ-loop
-part-load-gate-start c = omega (arith, row-fits (c .before .loop .g) (c .before .before .before .before .before .args .h .gates) (c .before .before .square .result) (length (now (c .before .before .before .before .before .args .out))) (c .loop-test .taken) (rw (c .before .before .square .ensures .0) (c .before .before .before .before .before .pre .1)))
+part-load-gate-start c =
+    let o = c .before .before .before .before .before in
+    let a = o .args in
+    let square = c .before .before .square in
+    omega (arith, row-fits (c .before .loop .g) (a .h .gates) (square .result) (length (now (a .out))) (c .loop-test .taken) (rw (square .ensures .0) (o .pre .1)))
 
 part-load-gate-end : tie.Need-part-load-gate-end Inv-loop μ-loop
 part-load-gate-end c = search needs
 
 load-gate-requires : tie.Need-load-gate-requires Inv-loop μ-loop
-load-gate-requires c κs = (c .before .before .before .before .before .before .pre .0, c .before .loop-test .taken, simp (length-take, length-drop) (omega (arith, c .before .before .before .square .ensures .0, row-fits (c .before .before .loop .g) (c .before .before .before .before .before .before .args .h .gates) (c .before .before .before .square .result) (length (now (c .before .before .before .before .before .before .args .out))) (c .before .loop-test .taken) (rw (c .before .before .before .square .ensures .0) (c .before .before .before .before .before .before .pre .1)))))
+load-gate-requires c κs =
+    let o = c .before .before .before .before .before .before in
+    let a = o .args in
+    let square = c .before .before .before .square in
+    (o .pre .0, c .before .loop-test .taken, simp (length-take, length-drop) (omega (arith, square .ensures .0, row-fits (c .before .before .loop .g) (a .h .gates) (square .result) (length (now (a .out))) (c .before .loop-test .taken) (rw (square .ensures .0) (o .pre .1)))))
 
 add-g : tie.Need-add-g Inv-loop μ-loop
 add-g c = search needs
@@ -50,7 +70,11 @@ loop-less : tie.Need-loop-less Inv-loop μ-loop
 loop-less c = search needs
 
 loop-again : tie.Need-loop-again Inv-loop μ-loop
-loop-again c = (search needs, search needs, written-more (gateOf (now (c .before .before .before .before .before .before .before .before .before .args .card)) (c .before .before .before .before .before .before .before .before .before .args .h)) _ (c .before .before .before .before .before .loop .g) _ _ (c .before .before .before .before .before .loop .out) _ _ (length-gates-numbers (now (c .before .before .before .before .before .before .before .before .before .args .card)) (c .before .before .before .before .before .before .before .before .before .args .h) (c .before .before .before .before .before .loop .g) ∙ ap (λ (m : ℕ). c .before .before .before .before .before .loop .g * m) (sym (c .before .before .before .before .before .before .square .ensures .0))) refl (c .before .before .before .before .before .loop .inv .2) refl (over-front (gateOf (now (c .before .before .before .before .before .before .before .before .before .args .card)) (c .before .before .before .before .before .before .before .before .before .args .h) (c .before .before .before .before .before .loop .g)) _ (length-gate-numbers (now (c .before .before .before .before .before .before .before .before .before .args .card)) (c .before .before .before .before .before .before .before .before .before .args .h) (c .before .before .before .before .before .loop .g)) (c .before .before .load-gate .ensures)))
+loop-again c =
+    let o = c .before .before .before .before .before .before .before .before .before in
+    let a = o .args in
+    let l = c .before .before .before .before .before .loop in
+    (search needs, search needs, written-more (gateOf (now (a .card)) (a .h)) _ (l .g) _ _ (l .out) _ _ (length-gates-numbers (now (a .card)) (a .h) (l .g) ∙ ap (λ (m : ℕ). l .g * m) (sym (c .before .before .before .before .before .before .square .ensures .0))) refl (l .inv .2) refl (over-front (gateOf (now (a .card)) (a .h) (l .g)) _ (length-gate-numbers (now (a .card)) (a .h) (l .g)) (c .before .before .load-gate .ensures)))
 
 same-length : tie.Need-same-length Inv-loop μ-loop
 same-length c = search needs

@@ -15,7 +15,9 @@ model-at-requires : tie.Need-model-at-requires
 model-at-requires c κs = search needs
 
 load-requires : tie.Need-load-requires
-load-requires c κs = let s = c .before .before .before .before .before in omega (arith, model-in (now (s .args .card)) (s .args .h) (s .pre .0) (s .pre .1))
+load-requires c κs =
+    let s = c .before .before .before .before .before in
+    omega (arith, model-in (now (s .args .card)) (s .args .h) (s .pre .0) (s .pre .1))
 
 mul-load-gates : tie.Need-mul-load-gates
 mul-load-gates c = search needs
@@ -36,7 +38,9 @@ same-length : tie.Need-same-length
 same-length c = search needs
 
 returns : tie.Need-returns
-returns c = let s = c .before .before .before .before .before .before .before .before .before .before .before .before in model-loaded (now (s .args .card)) (s .args .h) (now (s .args .out)) _ _ _ _ _ (c .before .before .before .before .before .before .before .before .model-at .ensures .0) (c .before .before .before .before .before .before .before .before .before .vector-numbers .ensures .0) refl (c .before .before .before .before .before .before .load .ensures) (c .before .before .load-gates .ensures)
+returns c =
+    let s = c .before .before .before .before .before .before .before .before .before .before .before .before in
+    model-loaded (now (s .args .card)) (s .args .h) (now (s .args .out)) _ _ _ _ _ (c .before .before .before .before .before .before .before .before .model-at .ensures .0) (c .before .before .before .before .before .before .before .before .before .vector-numbers .ensures .0) refl (c .before .before .before .before .before .before .load .ensures) (c .before .before .load-gates .ensures)
 
 pub load-model-spec : {M : Type 1} → statement M
 load-model-spec =

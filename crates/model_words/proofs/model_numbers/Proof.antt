@@ -14,10 +14,14 @@ square-requires : tie.Need-square-requires
 square-requires c κs = search needs
 
 mul-result : tie.Need-mul-result
-mul-result c = let s = c .before .before in omega (arith, product-le (s .args .h .gates) (c .square .result) 8 4096 (s .pre .2) (c .square .ensures .1))
+mul-result c =
+    let s = c .before .before in
+    omega (arith, product-le (s .args .h .gates) (c .square .result) 8 4096 (s .pre .2) (c .square .ensures .1))
 
 add-result : tie.Need-add-result
-add-result c = let s = c .before .before in omega (arith, product-le (s .args .h .gates) (c .square .result) 8 4096 (s .pre .2) (c .square .ensures .1))
+add-result c =
+    let s = c .before .before in
+    omega (arith, product-le (s .args .h .gates) (c .square .result) 8 4096 (s .pre .2) (c .square .ensures .1))
 
 returns : tie.Need-returns
 returns c =

@@ -40,9 +40,11 @@ same-length c = search needs
 returns : tie.Need-returns
 unfolding gateWords
 returns c =
+    let square = c .before .before .before .before .before .square in
+    let name-of = c .before .before .before .before .name-of in
     let s = c .before .before .before .before .before .before .before .before .before in
-    name-first (now (s .args .result)) (wordsOf (c .before .before .before .before .before .square .result) (now (s .args .numbers))) _ (c .before .before .before .before .name-of .result) _ (c .before .before .before .before .before .square .result) refl (omega arith) (length-words _ _) (c .before .before .emit .ensures)
-    ∙ ap₂ (λ (n m : ℕ). over (n ∷ wordsOf m (now (s .args .numbers))) (now (s .args .result))) (c .before .before .before .before .name-of .ensures) (c .before .before .before .before .before .square .ensures .0)
+    name-first (now (s .args .result)) (wordsOf (square .result) (now (s .args .numbers))) _ (name-of .result) _ (square .result) refl (omega arith) (length-words _ _) (c .before .before .emit .ensures)
+    ∙ ap₂ (λ (n m : ℕ). over (n ∷ wordsOf m (now (s .args .numbers))) (now (s .args .result))) (name-of .ensures) (square .ensures .0)
 
 pub put-gate-spec : {M : Type 1} → statement M
 put-gate-spec =

@@ -25,43 +25,82 @@ loop-holds : tie.Need-loop-holds Inv-loop μ-loop
 loop-holds c = (search needs, search needs, written-none _ _)
 
 mul-from : tie.Need-mul-from Inv-loop μ-loop
-mul-from c = let s = c .before .before .before .before .before .before in let m = c .before .before .square .ensures .0 in omega (arith, row-fits (c .before .loop .g) (s .args .h .gates) (c .before .before .square .result) (length (now (s .args .numbers))) (c .loop-test .taken) (rw m (s .pre .1)))
+mul-from c =
+    let square = c .before .before .square in
+    let s = c .before .before .before .before .before .before in
+    let m = square .ensures .0 in
+    omega (arith, row-fits (c .before .loop .g) (s .args .h .gates) (square .result) (length (now (s .args .numbers))) (c .loop-test .taken) (rw m (s .pre .1)))
 
 add-to : tie.Need-add-to Inv-loop μ-loop
 add-to c = search needs
 
 mul-to : tie.Need-mul-to Inv-loop μ-loop
-mul-to c = let s = c .before .before .before .before .before .before in let m = c .before .before .square .ensures .0 in omega (arith, row-fits (c .before .loop .g) (s .args .h .gates) (1 + c .before .before .square .result) (length (now (s .args .result))) (c .loop-test .taken) (rw m (s .pre .2)))
+mul-to c =
+    let square = c .before .before .square in
+    let s = c .before .before .before .before .before .before in
+    let m = square .ensures .0 in
+    omega (arith, row-fits (c .before .loop .g) (s .args .h .gates) (1 + square .result) (length (now (s .args .result))) (c .loop-test .taken) (rw m (s .pre .2)))
 
 mul-put-gate : tie.Need-mul-put-gate Inv-loop μ-loop
-mul-put-gate c = let s = c .before .before .before .before .before .before in let m = c .before .before .square .ensures .0 in omega (arith, row-fits (c .before .loop .g) (s .args .h .gates) (c .before .before .square .result) (length (now (s .args .numbers))) (c .loop-test .taken) (rw m (s .pre .1)))
+mul-put-gate c =
+    let square = c .before .before .square in
+    let s = c .before .before .before .before .before .before in
+    let m = square .ensures .0 in
+    omega (arith, row-fits (c .before .loop .g) (s .args .h .gates) (square .result) (length (now (s .args .numbers))) (c .loop-test .taken) (rw m (s .pre .1)))
 
 sub-put-gate : tie.Need-sub-put-gate Inv-loop μ-loop
-sub-put-gate c = let s = c .before .before .before .before .before .before in let m = c .before .before .square .ensures .0 in omega (arith, row-fits (c .before .loop .g) (s .args .h .gates) (c .before .before .square .result) (length (now (s .args .numbers))) (c .loop-test .taken) (rw m (s .pre .1)))
+sub-put-gate c =
+    let square = c .before .before .square in
+    let s = c .before .before .before .before .before .before in
+    let m = square .ensures .0 in
+    omega (arith, row-fits (c .before .loop .g) (s .args .h .gates) (square .result) (length (now (s .args .numbers))) (c .loop-test .taken) (rw m (s .pre .1)))
 
 part-put-gate-start : tie.Need-part-put-gate-start Inv-loop μ-loop
-part-put-gate-start c = let s = c .before .before .before .before .before .before in let m = c .before .before .square .ensures .0 in omega (arith, row-fits (c .before .loop .g) (s .args .h .gates) (c .before .before .square .result) (length (now (s .args .numbers))) (c .loop-test .taken) (rw m (s .pre .1)))
+part-put-gate-start c =
+    let square = c .before .before .square in
+    let s = c .before .before .before .before .before .before in
+    let m = square .ensures .0 in
+    omega (arith, row-fits (c .before .loop .g) (s .args .h .gates) (square .result) (length (now (s .args .numbers))) (c .loop-test .taken) (rw m (s .pre .1)))
 
 part-put-gate-end : tie.Need-part-put-gate-end Inv-loop μ-loop
 part-put-gate-end c = search needs
 
 mul-put-gate-2 : tie.Need-mul-put-gate-2 Inv-loop μ-loop
-mul-put-gate-2 c = let s = c .before .before .before .before .before .before .before in let m = c .before .before .before .square .ensures .0 in omega (arith, row-fits (c .before .before .loop .g) (s .args .h .gates) (1 + c .before .before .before .square .result) (length (now (s .args .result))) (c .before .loop-test .taken) (rw m (s .pre .2)))
+mul-put-gate-2 c =
+    let square = c .before .before .before .square in
+    let s = c .before .before .before .before .before .before .before in
+    let m = square .ensures .0 in
+    omega (arith, row-fits (c .before .before .loop .g) (s .args .h .gates) (1 + square .result) (length (now (s .args .result))) (c .before .loop-test .taken) (rw m (s .pre .2)))
 
 sub-put-gate-2 : tie.Need-sub-put-gate-2 Inv-loop μ-loop
-sub-put-gate-2 c = let s = c .before .before .before .before .before .before .before in let m = c .before .before .before .square .ensures .0 in omega (arith, row-fits (c .before .before .loop .g) (s .args .h .gates) (1 + c .before .before .before .square .result) (length (now (s .args .result))) (c .before .loop-test .taken) (rw m (s .pre .2)))
+sub-put-gate-2 c =
+    let square = c .before .before .before .square in
+    let s = c .before .before .before .before .before .before .before in
+    let m = square .ensures .0 in
+    omega (arith, row-fits (c .before .before .loop .g) (s .args .h .gates) (1 + square .result) (length (now (s .args .result))) (c .before .loop-test .taken) (rw m (s .pre .2)))
 
 part-put-gate-start-2 : tie.Need-part-put-gate-start-2 Inv-loop μ-loop
-part-put-gate-start-2 c = let s = c .before .before .before .before .before .before .before in let m = c .before .before .before .square .ensures .0 in omega (arith, row-fits (c .before .before .loop .g) (s .args .h .gates) (1 + c .before .before .before .square .result) (length (now (s .args .result))) (c .before .loop-test .taken) (rw m (s .pre .2)))
+part-put-gate-start-2 c =
+    let square = c .before .before .before .square in
+    let s = c .before .before .before .before .before .before .before in
+    let m = square .ensures .0 in
+    omega (arith, row-fits (c .before .before .loop .g) (s .args .h .gates) (1 + square .result) (length (now (s .args .result))) (c .before .loop-test .taken) (rw m (s .pre .2)))
 
 part-put-gate-end-2 : tie.Need-part-put-gate-end-2 Inv-loop μ-loop
-part-put-gate-end-2 c = let s = c .before .before .before .before .before .before .before in let m = c .before .before .before .square .ensures .0 in omega (arith, row-fits (c .before .before .loop .g) (s .args .h .gates) (1 + c .before .before .before .square .result) (length (now (s .args .result))) (c .before .loop-test .taken) (rw m (s .pre .2)))
+part-put-gate-end-2 c =
+    let square = c .before .before .before .square in
+    let s = c .before .before .before .before .before .before .before in
+    let m = square .ensures .0 in
+    omega (arith, row-fits (c .before .before .loop .g) (s .args .h .gates) (1 + square .result) (length (now (s .args .result))) (c .before .loop-test .taken) (rw m (s .pre .2)))
 
 put-gate-requires : tie.Need-put-gate-requires Inv-loop μ-loop
 put-gate-requires c κs =
+    let square = c .before .before .before .before .square in
+    let l = c .before .before .before .loop .g in
+    let loop-test = c .before .before .loop-test .taken in
     let s = c .before .before .before .before .before .before .before .before in
-    let m = c .before .before .before .before .square .ensures .0 in
-    (s .pre .0, search needs, simp (length-take, length-drop) (omega (arith, row-fits (c .before .before .before .loop .g) (s .args .h .gates) (c .before .before .before .before .square .result) (length (now (s .args .numbers))) (c .before .before .loop-test .taken) (rw m (s .pre .1)))), simp (length-take, length-drop) (omega (arith, row-fits (c .before .before .before .loop .g) (s .args .h .gates) (1 + c .before .before .before .before .square .result) (length (now (s .args .result))) (c .before .before .loop-test .taken) (rw m (s .pre .2)))))
+    let m = square .ensures .0 in
+    (s .pre .0, search needs, simp (length-take, length-drop) (omega (arith, row-fits l (s .args .h .gates) (square .result) (length (now (s .args .numbers))) loop-test (rw m (s .pre .1)))), simp (length-take, length-drop) (omega (arith, row-fits l (s .args .h .gates) (1 + square .result) (length (now (s .args .result))) loop-test (rw m (s .pre .2)))))
 
 add-g : tie.Need-add-g Inv-loop μ-loop
 add-g c = search needs
@@ -71,9 +110,10 @@ loop-less c = search needs
 
 loop-again : tie.Need-loop-again Inv-loop μ-loop
 loop-again c =
+    let l = c .before .before .before .before .before .before .loop in
     let s = c .before .before .before .before .before .before .before .before .before .before .before in
     let m = c .before .before .before .before .before .before .before .square .ensures .0 in
-    (search needs, search needs, written-more (λ g. gateWords (now (s .args .card)) (s .args .h) g (drop (g * (s .args .h .dimension * s .args .h .dimension)) (now (s .args .numbers)))) _ (c .before .before .before .before .before .before .loop .g) _ _ (c .before .before .before .before .before .before .loop .result) _ _ (length-gates _ _ _ _ ∙ rw (← m)) refl (c .before .before .before .before .before .before .loop .inv .2) (ap (gateWords (now (s .args .card)) (s .args .h) (c .before .before .before .before .before .before .loop .g)) (rest-lent _ _ (now (s .args .numbers)) refl ∙ rw m)) (c .before .before .put-gate .ensures))
+    (search needs, search needs, written-more (λ g. gateWords (now (s .args .card)) (s .args .h) g (drop (g * (s .args .h .dimension * s .args .h .dimension)) (now (s .args .numbers)))) _ (l .g) _ _ (l .result) _ _ (length-gates _ _ _ _ ∙ rw (← m)) refl (l .inv .2) (ap (gateWords (now (s .args .card)) (s .args .h) (l .g)) (rest-lent _ _ (now (s .args .numbers)) refl ∙ rw m)) (c .before .before .put-gate .ensures))
 
 same-length : tie.Need-same-length Inv-loop μ-loop
 same-length c = search needs

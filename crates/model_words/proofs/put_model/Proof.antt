@@ -43,7 +43,9 @@ same-length : tie.Need-same-length
 same-length c = search needs
 
 returns : tie.Need-returns
-returns c = let s = c .before .before .before .before .before .before .before .before .before .before .before .before .before in model-written (now (s .args .card)) (s .args .h) (now (s .args .numbers)) (now (s .args .result)) _ _ _ _ _ (c .before .before .before .before .before .before .before .before .before .vector-numbers .ensures .0) refl refl (c .before .before .before .before .before .before .before .emit .ensures) (c .before .before .put-gates .ensures)
+returns c =
+    let s = c .before .before .before .before .before .before .before .before .before .before .before .before .before in
+    model-written (now (s .args .card)) (s .args .h) (now (s .args .numbers)) (now (s .args .result)) _ _ _ _ _ (c .before .before .before .before .before .before .before .before .before .vector-numbers .ensures .0) refl refl (c .before .before .before .before .before .before .before .emit .ensures) (c .before .before .put-gates .ensures)
 
 pub put-model-spec : {M : Type 1} → statement M
 put-model-spec =

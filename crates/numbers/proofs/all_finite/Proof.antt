@@ -39,7 +39,9 @@ loop-less : tie.Need-loop-less Inv-loop μ-loop
 loop-less c = search needs
 
 loop-again : tie.Need-loop-again Inv-loop μ-loop
-loop-again c = (search needs, finite-more _ (c .before .before .before .before .loop .i) (c .before .before .before .before .loop .all) _ _ (search needs) (c .both .ensures) (c .before .is-finite .ensures) (c .before .before .before .before .loop .inv .1))
+loop-again c =
+    let l = c .before .before .before .before .loop in
+    (search needs, finite-more _ (l .i) (l .all) _ _ (search needs) (c .both .ensures) (c .before .is-finite .ensures) (l .inv .1))
 
 returns : tie.Need-returns Inv-loop μ-loop
 returns c = finite-all (now (c .before .before .before .args .xs)) (c .before .loop .i) _ (omega arith) (c .before .loop .inv .1)

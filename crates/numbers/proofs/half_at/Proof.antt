@@ -28,11 +28,13 @@ byte-requires-4 c κs = search needs
 
 returns : tie.Need-returns
 returns c =
-    let x = c .before .before .before .byte .ensures in
-    let y = c .before .before .byte2 .ensures in
+    let byte = c .before .before .before .byte in
+    let byte2 = c .before .before .byte2 in
+    let x = byte .ensures in
+    let y = byte2 .ensures in
     let z = c .before .byte3 .ensures in
     let w = c .byte4 .ensures in
-    let e = four (c .before .before .before .byte .result) (c .before .before .byte2 .result) (c .before .byte3 .result) (c .byte4 .result) (x .1) (y .1) (z .1) (w .1) in
+    let e = four (byte .result) (byte2 .result) (c .before .byte3 .result) (c .byte4 .result) (x .1) (y .1) (z .1) (w .1) in
     (omega (arith, e, x .0, y .0, z .0, w .0), omega (arith, e, x .1, y .1, z .1, w .1))
 
 pub half-at-spec : {M : Type 1} → statement M

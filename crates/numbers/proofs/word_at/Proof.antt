@@ -42,10 +42,12 @@ half-at-requires-2 c κs = search needs
 
 returns : tie.Need-returns
 returns c =
+    let o = c .before .before .before in
+    let a = o .args in
     let x = c .before .half-at .ensures in
     let y = c .half-at2 .ensures in
     let e = beside (c .before .half-at .result) 32 (c .half-at2 .result) (omega arith) (omega arith) in
-    omega (arith, e, x .0, y .0, joined (now (c .before .before .before .args .card)) (c .before .before .before .args .place))
+    omega (arith, e, x .0, y .0, joined (now (a .card)) (a .place))
 
 pub word-at-spec : {M : Type 1} → statement M
 word-at-spec = tie.close (tie.spec mul-b half-at-requires add-half-at half-at-requires-2 returns)

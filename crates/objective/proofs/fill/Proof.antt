@@ -41,10 +41,16 @@ shared-slice-read-model : tie.Need-shared-slice-read-model Inv-loop μ-loop
 shared-slice-read-model c = turn-of _ _ _ (c .before .before .loop-test .taken) (sym (c .before .before .before .before .before .before .before .before .before .before .before .before .pre .1))
 
 mul-model-2 : tie.Need-mul-model-2 Inv-loop μ-loop
-mul-model-2 c = scaled-fits _ _ _ (turn-of _ _ _ (c .before .before .before .before .before .before .before .before .before .before .before .before .pre .0 .inside (c .before .before .before .loop .i) (c .before .before .loop-test .taken)) (sym (c .before .before .before .loop .inv .1 ∙ c .before .before .before .before .before .before .load-model .kept .1 .1 .0 ∙ c .before .before .before .before .before .before .before .before .before .before .before .before .pre .2))) (search needs)
+mul-model-2 c =
+    let o = c .before .before .before .before .before .before .before .before .before .before .before .before in
+    let l = c .before .before .before .loop in
+    scaled-fits _ _ _ (turn-of _ _ _ (o .pre .0 .inside (l .i) (c .before .before .loop-test .taken)) (sym (l .inv .1 ∙ c .before .before .before .before .before .before .load-model .kept .1 .1 .0 ∙ o .pre .2))) (search needs)
 
 slice-write-model : tie.Need-slice-write-model Inv-loop μ-loop
-slice-write-model c = turn-of _ _ _ (c .before .before .before .before .before .before .before .before .before .before .before .before .pre .0 .inside (c .before .before .before .loop .i) (c .before .before .loop-test .taken)) (sym (c .before .before .before .loop .inv .1 ∙ c .before .before .before .before .before .before .load-model .kept .1 .1 .0 ∙ c .before .before .before .before .before .before .before .before .before .before .before .before .pre .2))
+slice-write-model c =
+    let o = c .before .before .before .before .before .before .before .before .before .before .before .before in
+    let l = c .before .before .before .loop in
+    turn-of _ _ _ (o .pre .0 .inside (l .i) (c .before .before .loop-test .taken)) (sym (l .inv .1 ∙ c .before .before .before .before .before .before .load-model .kept .1 .1 .0 ∙ o .pre .2))
 
 add-i : tie.Need-add-i Inv-loop μ-loop
 add-i c = next-fits _ _ _ (c .before .before .loop-test .taken) refl (c .before .before .before .before .before .before .before .before .before .before .before .before .pre .0 .few)
@@ -53,13 +59,18 @@ loop-less : tie.Need-loop-less Inv-loop μ-loop
 loop-less c = add-one-dec _ _ (c .before .before .loop-test .taken)
 
 loop-again : tie.Need-loop-again Inv-loop μ-loop
-loop-again c = (add-one-le (c .before .before .loop-test .taken), length-set (c .before .before .before .loop .model) _ _ ∙ c .before .before .before .loop .inv .1, fold-more _ _ _ _ _ (c .before .before .before .loop .inv .2) refl)
+loop-again c =
+    let l = c .before .before .before .loop in
+    (add-one-le (c .before .before .loop-test .taken), length-set (l .model) _ _ ∙ l .inv .1, fold-more _ _ _ _ _ (l .inv .2) refl)
 
 same-length : tie.Need-same-length Inv-loop μ-loop
 same-length c = c .before .loop .inv .1 ∙ c .before .before .before .before .load-model .kept .1 .1 .0
 
 returns : tie.Need-returns Inv-loop μ-loop
-returns c = let a = c .before .before .before .before .before .before .before .before .before .before .args in put-all (now (a .places)) (now (a .xs)) (numbersOf (now (a .card)) (a .h)) (now (a .model)) _ _ _ (turn-last _ _ _ (c .loop-test .left) (c .before .loop .inv .0) refl) (c .before .before .before .before .before .before .before .before .before .before .pre .1) (length-model _ _ ∙ sym (c .before .before .before .before .before .before .before .before .before .before .pre .2)) (c .before .before .before .before .load-model .ensures) (c .before .loop .inv .2)
+returns c =
+    let o = c .before .before .before .before .before .before .before .before .before .before in
+    let a = o .args in
+    put-all (now (a .places)) (now (a .xs)) (numbersOf (now (a .card)) (a .h)) (now (a .model)) _ _ _ (turn-last _ _ _ (c .loop-test .left) (c .before .loop .inv .0) refl) (o .pre .1) (length-model _ _ ∙ sym (o .pre .2)) (c .before .before .before .before .load-model .ensures) (c .before .loop .inv .2)
 
 pub fill-spec : {M : Type 1} → statement M
 fill-spec =

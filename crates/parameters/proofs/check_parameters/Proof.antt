@@ -33,7 +33,9 @@ loop-less : tie.Need-loop-less Inv-loop μ-loop
 loop-less c = search needs
 
 loop-again : tie.Need-loop-again Inv-loop μ-loop
-loop-again c = (search needs, fold-more _ _ _ _ _ (c .before .before .before .loop .inv .1) (c .first-of .ensures ∙ ap (firstOf (c .before .before .before .loop .found)) (c .before .check-parameter .ensures)))
+loop-again c =
+    let l = c .before .before .before .loop in
+    (search needs, fold-more _ _ _ _ _ (l .inv .1) (c .first-of .ensures ∙ ap (firstOf (l .found)) (c .before .check-parameter .ensures)))
 
 returns : tie.Need-returns Inv-loop μ-loop
 unfolding parametersVerdict

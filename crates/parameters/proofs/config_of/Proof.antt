@@ -49,7 +49,9 @@ number-of-requires-6 : tie.Need-number-of-requires-6
 number-of-requires-6 c κs = tt
 
 returns : tie.Need-returns
-returns c = let s = now (c .before .before .before .before .before .before .before .before .before .before .before .before .before .before .before .args .card) in config-by s (c .before .before .before .before .before .before .before .before .before .before .before .before .before .word-at .ensures) (number-by s 2 (c .before .before .before .before .before .before .before .before .before .before .before .before .word-at2 .ensures) (c .before .before .before .before .before .before .before .before .before .before .before .number-of .ensures)) (number-by s 3 (c .before .before .before .before .before .before .before .before .before .before .word-at3 .ensures) (c .before .before .before .before .before .before .before .before .before .number-of2 .ensures)) (number-by s 4 (c .before .before .before .before .before .before .before .before .word-at4 .ensures) (c .before .before .before .before .before .before .before .number-of3 .ensures)) (number-by s 5 (c .before .before .before .before .before .before .word-at5 .ensures) (c .before .before .before .before .before .number-of4 .ensures)) (number-by s 6 (c .before .before .before .before .word-at6 .ensures) (c .before .before .before .number-of5 .ensures)) (c .before .before .word-at7 .ensures) (number-by s 8 (c .before .word-at8 .ensures) (c .number-of6 .ensures))
+returns c =
+    let s = now (c .before .before .before .before .before .before .before .before .before .before .before .before .before .before .before .args .card) in
+    config-by s (c .before .before .before .before .before .before .before .before .before .before .before .before .before .word-at .ensures) (number-by s 2 (c .before .before .before .before .before .before .before .before .before .before .before .before .word-at2 .ensures) (c .before .before .before .before .before .before .before .before .before .before .before .number-of .ensures)) (number-by s 3 (c .before .before .before .before .before .before .before .before .before .before .word-at3 .ensures) (c .before .before .before .before .before .before .before .before .before .number-of2 .ensures)) (number-by s 4 (c .before .before .before .before .before .before .before .before .word-at4 .ensures) (c .before .before .before .before .before .before .before .number-of3 .ensures)) (number-by s 5 (c .before .before .before .before .before .before .word-at5 .ensures) (c .before .before .before .before .before .number-of4 .ensures)) (number-by s 6 (c .before .before .before .before .word-at6 .ensures) (c .before .before .before .number-of5 .ensures)) (c .before .before .word-at7 .ensures) (number-by s 8 (c .before .word-at8 .ensures) (c .number-of6 .ensures))
 
 pub config-of-spec : {M : Type 1} → statement M
 config-of-spec =

@@ -11,7 +11,10 @@ coordinate-at-requires : tie.Need-coordinate-at-requires
 coordinate-at-requires c κs = (c .before .pre .0 .limits, number-fits _ _ (c .before .pre .1) (c .before .pre .0 .limits .coordinates))
 
 word-at-requires : tie.Need-word-at-requires
-word-at-requires c κs = word-in _ _ _ (c .coordinate-at .ensures .0) (coordinate-in (c .before .before .args .card .now) (c .before .before .args .h) (c .before .before .pre .0) (c .before .before .args .i) (c .before .before .pre .1))
+word-at-requires c κs =
+    let o = c .before .before in
+    let a = o .args in
+    word-in _ _ _ (c .coordinate-at .ensures .0) (coordinate-in (a .card .now) (a .h) (o .pre .0) (a .i) (o .pre .1))
 
 returns : tie.Need-returns
 returns c = c .word-at .ensures ∙ ap (wordAt (now (c .before .before .before .args .card))) (c .before .coordinate-at .ensures .0)

@@ -9,10 +9,16 @@ mul-result : tie.Need-mul-result
 mul-result c = omega (arith, row-most (c .before .args .c .row) (c .before .args .h .dimension) (c .before .pre .1) (c .before .pre .0 .dimension))
 
 add-result : tie.Need-add-result
-add-result c = omega (arith, row-most (c .before .before .args .c .row) (c .before .before .args .h .dimension) (c .before .before .pre .1) (c .before .before .pre .0 .dimension))
+add-result c =
+    let o = c .before .before in
+    let a = o .args in
+    omega (arith, row-most (a .c .row) (a .h .dimension) (o .pre .1) (o .pre .0 .dimension))
 
 returns : tie.Need-returns
-returns c = (search needs, omega (arith, row-most (c .before .before .args .c .row) (c .before .before .args .h .dimension) (c .before .before .pre .1) (c .before .before .pre .0 .dimension)))
+returns c =
+    let o = c .before .before in
+    let a = o .args in
+    (search needs, omega (arith, row-most (a .c .row) (a .h .dimension) (o .pre .1) (o .pre .0 .dimension)))
 
 pub entry-number-spec : {M : Type 1} → statement M
 entry-number-spec = tie.close (tie.spec mul-result add-result returns)

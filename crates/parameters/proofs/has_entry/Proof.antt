@@ -24,7 +24,10 @@ pick-requires-2 : tie.Need-pick-requires-2
 pick-requires-2 c κs = tt
 
 returns : tie.Need-returns
-returns c = entry-by (c .before .before .before .before .before .before .before .before .before .before .before .before .before .args .h) (c .before .before .before .before .before .before .before .before .before .before .before .before .before .args .c) (c .before .before .before .before .before .before .before .before .before .both .ensures) (c .before .before .before .before .before .before .entry-number .ensures .0) (c .before .before .before .before .before .square .ensures .0) (c .before .before .before .before .both2 .ensures) (c .before .pick .ensures) (c .pick2 .ensures)
+returns c =
+    let o = c .before .before .before .before .before .before .before .before .before .before .before .before .before in
+    let a = o .args in
+    entry-by (a .h) (a .c) (c .before .before .before .before .before .before .before .before .before .both .ensures) (c .before .before .before .before .before .before .entry-number .ensures .0) (c .before .before .before .before .before .square .ensures .0) (c .before .before .before .before .both2 .ensures) (c .before .pick .ensures) (c .pick2 .ensures)
 
 pub has-entry-spec : {M : Type 1} → statement M
 has-entry-spec =

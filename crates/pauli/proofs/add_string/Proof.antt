@@ -27,7 +27,9 @@ loop-less : tie.Need-loop-less Inv-loop μ-loop
 loop-less c = search needs
 
 loop-again : tie.Need-loop-again Inv-loop μ-loop
-loop-again c = (search needs, search needs, rows-turn _ _ _ _ _ _ _ _ (c .before .before .before .before .before .before .before .pre .1) (search needs) (c .before .before .before .before .before .before .before .pre .3) (c .before .before .before .before .before .before .before .pre .4) (c .before .before .before .before .before .before .before .pre .2) (c .before .before .before .before .before .loop .inv .2) (c .before .before .add-entry .ensures))
+loop-again c =
+    let o = c .before .before .before .before .before .before .before in
+    (search needs, search needs, rows-turn _ _ _ _ _ _ _ _ (o .pre .1) (search needs) (o .pre .3) (o .pre .4) (o .pre .2) (c .before .before .before .before .before .loop .inv .2) (c .before .before .add-entry .ensures))
 
 same-length : tie.Need-same-length Inv-loop μ-loop
 same-length c = search needs

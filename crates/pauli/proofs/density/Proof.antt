@@ -25,17 +25,21 @@ clear-requires c κs = search needs
 
 loop-holds : tie.Need-loop-holds Inv-loop μ-loop
 unfolding blank
-loop-holds c = (search needs, strings-none _ _ _ (now (c .before .before .before .before .before .before .args .out)) _ (c .before .before .before .before .before .before .pre .1) (c .before .before .before .before .before .before .pre .3) (c .before .before .clear .ensures))
+loop-holds c =
+    let o = c .before .before .before .before .before .before in
+    (search needs, strings-none _ _ _ (now (o .args .out)) _ (o .pre .1) (o .pre .3) (c .before .before .clear .ensures))
 
 weight-of-requires : tie.Need-weight-of-requires Inv-loop μ-loop
 weight-of-requires c κs = (omega (arith, pow-mono (c .before .before .before .before .before .before .before .before .pre .0)), search needs)
 
 add-string-requires : tie.Need-add-string-requires Inv-loop μ-loop
 add-string-requires c κs =
-    let es = now (c .before .before .before .before .before .before .before .before .before .before .args .es) in
-    let i = c .before .before .before .loop .code in
-    let e = each-finite es i (c .before .before .before .before .before .before .before .before .before .before .pre .4) (search needs) in
-    (c .before .before .before .before .before .before .before .before .before .before .pre .0, c .before .before .before .before .before .before .before .before .before .before .pre .1, size-in _ _ (c .before .before .before .loop .out) (c .before .before .before .before .before .before .before .before .before .before .pre .1) (c .before .before .before .loop .inv .1 .size), ap finite (c .before .weight-of .ensures) ∙ weight-finite _ _ es i (c .before .before .before .before .before .before .before .before .before .before .pre .0) (c .before .before .before .before .before .before .before .before .before .before .pre .1) (c .before .before .before .before .before .before .before .before .before .shared-slice-known .given i) e, c .before .before .before .loop .inv .1 .plain)
+    let o = c .before .before .before .before .before .before .before .before .before .before in
+    let l = c .before .before .before .loop in
+    let es = now (o .args .es) in
+    let i = l .code in
+    let e = each-finite es i (o .pre .4) (search needs) in
+    (o .pre .0, o .pre .1, size-in _ _ (l .out) (o .pre .1) (l .inv .1 .size), ap finite (c .before .weight-of .ensures) ∙ weight-finite _ _ es i (o .pre .0) (o .pre .1) (c .before .before .before .before .before .before .before .before .before .shared-slice-known .given i) e, l .inv .1 .plain)
 
 add-code : tie.Need-add-code Inv-loop μ-loop
 add-code c = search needs
@@ -47,7 +51,9 @@ loop-again : tie.Need-loop-again Inv-loop μ-loop
 loop-again c = (search needs, strings-more _ _ _ _ _ _ _ (c .before .before .before .before .before .before .before .before .before .before .before .before .before .pre .1) (c .before .before .before .before .weight-of .ensures) (c .before .before .before .before .before .before .loop .inv .1) (c .before .before .add-string .ensures))
 
 same-length : tie.Need-same-length Inv-loop μ-loop
-same-length c = size-in _ _ (c .before .loop .out) (c .before .before .before .before .before .before .before .before .pre .1) (c .before .loop .inv .1 .size) ∙ sym (c .before .before .before .before .before .before .before .before .pre .3)
+same-length c =
+    let o = c .before .before .before .before .before .before .before .before in
+    size-in _ _ (c .before .loop .out) (o .pre .1) (c .before .loop .inv .1 .size) ∙ sym (o .pre .3)
 
 returns : tie.Need-returns Inv-loop μ-loop
 returns c = strings-all _ _ _ _ (omega arith) (c .before .loop .inv .1)

@@ -27,13 +27,21 @@ slice-aggregate-density : tie.Need-slice-aggregate-density
 slice-aggregate-density c = sym (length-take-le _ _ (room _ _ _ (c .before .two-to .ensures .0) (c .before .before .before .before .pre .2)))
 
 density-requires : tie.Need-density-requires
-density-requires c κs = (c .before .before .before .before .pre .0, c .before .two-to .ensures .0, c .before .before .before .before .pre .1, length-take-le _ _ (room _ _ _ (c .before .two-to .ensures .0) (c .before .before .before .before .pre .2)), c .before .before .before .before .pre .3)
+density-requires c κs =
+    let o = c .before .before .before .before in
+    (o .pre .0, c .before .two-to .ensures .0, o .pre .1, length-take-le _ _ (room _ _ _ (c .before .two-to .ensures .0) (o .pre .2)), o .pre .3)
 
 slice-reshare-prefix-finite-or : tie.Need-slice-reshare-prefix-finite-or
-slice-reshare-prefix-finite-or c = front-long _ _ _ (densityOf (c .before .before .before .before .before .before .before .args .n) (now (c .before .before .before .before .before .before .before .args .es))) (c .before .before .density .ensures) (length-density _ _ _ (c .before .before .before .before .two-to .ensures .0))
+slice-reshare-prefix-finite-or c =
+    let o = c .before .before .before .before .before .before .before in
+    let a = o .args in
+    front-long _ _ _ (densityOf (a .n) (now (a .es))) (c .before .before .density .ensures) (length-density _ _ _ (c .before .before .before .before .two-to .ensures .0))
 
 slice-aggregate-finite-or : tie.Need-slice-aggregate-finite-or
-slice-aggregate-finite-or c = sym (length-take-le _ _ (front-long _ _ _ (densityOf (c .before .before .before .before .before .before .before .before .args .n) (now (c .before .before .before .before .before .before .before .before .args .es))) (c .before .before .before .density .ensures) (length-density _ _ _ (c .before .before .before .before .before .two-to .ensures .0))))
+slice-aggregate-finite-or c =
+    let o = c .before .before .before .before .before .before .before .before in
+    let a = o .args in
+    sym (length-take-le _ _ (front-long _ _ _ (densityOf (a .n) (now (a .es))) (c .before .before .before .density .ensures) (length-density _ _ _ (c .before .before .before .before .before .two-to .ensures .0))))
 
 finite-or-requires : tie.Need-finite-or-requires
 finite-or-requires c κs = search needs
@@ -42,7 +50,11 @@ same-length : tie.Need-same-length
 same-length c = search needs
 
 returns : tie.Need-returns
-returns c = (tested _ _ _ _ (front-is _ _ _ _ (c .before .before .before .before .density .ensures) (length-density _ _ _ (c .before .before .before .before .before .before .two-to .ensures .0))) (c .finite-or .ensures), front-over _ _ _ _ (c .before .before .before .before .density .ensures) (length-density _ _ _ (c .before .before .before .before .before .before .two-to .ensures .0)))
+returns c =
+    let two-to = c .before .before .before .before .before .before .two-to .ensures in
+    let density = c .before .before .before .before .density .ensures in
+    let density-2 = length-density _ _ _ (two-to .0) in
+    (tested _ _ _ _ (front-is _ _ _ _ density density-2) (c .finite-or .ensures), front-over _ _ _ _ density density-2)
 
 pub density-tested-spec : {M : Type 1} → statement M
 density-tested-spec =

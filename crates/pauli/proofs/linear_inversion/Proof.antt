@@ -31,7 +31,9 @@ enum-told : tie.Need-enum-told
 enum-told c = search needs
 
 density-tested-requires : tie.Need-density-tested-requires
-density-tested-requires c κs = (c .before .before .before .before .before .before .before .before .pre .0, c .before .before .before .before .before .before .before .before .pre .1, c .before .before .before .before .before .before .before .before .pre .2, good-finite _ _ (sym (c .before .enum-told .given .1) ∙ c .before .before .before .vet .ensures))
+density-tested-requires c κs =
+    let o = c .before .before .before .before .before .before .before .before in
+    (o .pre .0, o .pre .1, o .pre .2, good-finite _ _ (sym (c .before .enum-told .given .1) ∙ c .before .before .before .vet .ensures))
 
 returns-2 : tie.Need-returns-2
 returns-2 c =
@@ -45,10 +47,11 @@ same-length c = search needs
 
 returns-3 : tie.Need-returns-3
 returns-3 c =
+    let density-tested = c .before .before .density-tested .ensures in
     let p = sym (c .before .before .before .before .before .before .before .before .is-positive .ensures) ∙ not-false _ (c .before .before .before .before .before .before .before .if1 .left) in
     let v = sym (c .before .before .before .before .enum-told .given .1) ∙ c .before .before .before .before .before .before .vet .ensures in
     let l = now (c .before .before .before .before .before .before .before .before .before .before .before .args .out) in
-    (c .before .before .density-tested .ensures .0 ∙ by-vector _ _ Refused _ _ p v, c .before .before .density-tested .ensures .1 ∙ ap (λ (z : List Float). over z l) (by-vector _ _ (λ _. []) _ _ p v))
+    (density-tested .0 ∙ by-vector _ _ Refused _ _ p v, density-tested .1 ∙ ap (λ (z : List Float). over z l) (by-vector _ _ (λ _. []) _ _ p v))
 
 pub linear-inversion-spec : {M : Type 1} → statement M
 linear-inversion-spec =

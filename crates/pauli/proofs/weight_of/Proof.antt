@@ -1,7 +1,7 @@
 -- `pauli::weight_of` meets its contract. Assumes nothing.
 use mathlib.Core.Path.{refl, ap}
 use native.Mathlib.Omega.{arith}
-use lib.Dec.{leb, le→leb}
+use lib.Dec.{le→leb}
 use lib.Ieee.{inFloat, ofInt, binary64, Float}
 use lib.IntN.{pos}
 use Prim.Native.Nat.{_^_}

@@ -20,13 +20,22 @@ loop-holds : tie.Need-loop-holds Inv-loop μ-loop
 loop-holds c = (search needs, near-none _ _)
 
 mul-is-near : tie.Need-mul-is-near Inv-loop μ-loop
-mul-is-near c = omega (arith, step-in (c .before .loop .k) (c .before .before .before .args .p) (c .before .before .before .args .step) (search needs) (search needs), square-most (c .before .before .before .args .p) (search needs))
+mul-is-near c =
+    let o = c .before .before .before in
+    let a = o .args in
+    omega (arith, step-in (c .before .loop .k) (a .p) (a .step) (search needs) (search needs), square-most (a .p) (search needs))
 
 mul-is-near-2 : tie.Need-mul-is-near-2 Inv-loop μ-loop
-mul-is-near-2 c = omega (arith, step-in (c .before .loop .k) (c .before .before .before .args .p) (c .before .before .before .args .step) (search needs) (search needs), square-most (c .before .before .before .args .p) (search needs))
+mul-is-near-2 c =
+    let o = c .before .before .before in
+    let a = o .args in
+    omega (arith, step-in (c .before .loop .k) (a .p) (a .step) (search needs) (search needs), square-most (a .p) (search needs))
 
 shared-slice-read-is-near : tie.Need-shared-slice-read-is-near Inv-loop μ-loop
-shared-slice-read-is-near c = omega (arith, step-in (c .before .before .loop .k) (c .before .before .before .before .args .p) (c .before .before .before .before .args .step) (search needs) (search needs))
+shared-slice-read-is-near c =
+    let o = c .before .before .before .before in
+    let a = o .args in
+    omega (arith, step-in (c .before .before .loop .k) (a .p) (a .step) (search needs) (search needs))
 
 unit-at-requires : tie.Need-unit-at-requires Inv-loop μ-loop
 unit-at-requires c κs = search needs
@@ -44,7 +53,9 @@ loop-less : tie.Need-loop-less Inv-loop μ-loop
 loop-less c = search needs
 
 loop-again : tie.Need-loop-again Inv-loop μ-loop
-loop-again c = (search needs, near-more (c .before .before .before .before .before .loop .k) _ _ _ _ _ _ (c .before .before .before .before .before .loop .inv .1) (c .before .before .unit-at .ensures) (c .before .is-near .ensures) (c .both .ensures))
+loop-again c =
+    let l = c .before .before .before .before .before .loop in
+    (search needs, near-more (l .k) _ _ _ _ _ _ (l .inv .1) (c .before .before .unit-at .ensures) (c .before .is-near .ensures) (c .both .ensures))
 
 returns : tie.Need-returns Inv-loop μ-loop
 returns c = near-end (c .before .loop .k) _ _ _ _ (omega arith) (c .before .loop .inv .1)

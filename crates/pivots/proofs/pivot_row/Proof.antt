@@ -51,7 +51,14 @@ loop-less : tie.Need-loop-less Inv-loop μ-loop
 loop-less c = search needs
 
 loop-again : tie.Need-loop-again Inv-loop μ-loop
-loop-again c = (search needs, either-below _ (c .before .before .before .before .before .loop .p) (c .before .before .before .before .before .before .before .before .args .k + c .before .before .before .before .before .loop .t) (c .before .before .stays-largest .result) _ (c .before .before .before .before .before .loop .inv .1) (omega arith) (c .before .picked-row .ensures), size-picked (c .before .before .before .before .before .before .before .before .args .w) (c .before .before .before .before .before .before .before .before .args .k) (now (c .before .before .before .before .before .before .before .before .args .work)) (c .before .before .before .before .before .loop .p) (c .before .before .before .before .before .before .before .before .args .k + c .before .before .before .before .before .loop .t) _ _ (c .before .before .stays-largest .result) _ _ (c .before .before .before .before .before .loop .inv .2) (c .before .before .before .size-at2 .ensures) (c .before .picked-row .ensures) (c .picked-size .ensures), fold-more _ _ _ _ _ (c .before .before .before .before .before .loop .inv .3) (row-picked (c .before .before .before .before .before .before .before .before .args .w) (c .before .before .before .before .before .before .before .before .args .k) (now (c .before .before .before .before .before .before .before .before .args .work)) (c .before .before .before .before .before .loop .p) (c .before .before .before .before .before .before .before .before .args .k + c .before .before .before .before .before .loop .t) _ _ (c .before .before .stays-largest .result) _ (c .before .before .before .before .before .loop .inv .2) (c .before .before .before .size-at2 .ensures) (c .before .before .stays-largest .ensures) (c .before .picked-row .ensures)))
+loop-again c =
+    let o = c .before .before .before .before .before .before .before .before in
+    let a = o .args in
+    let l = c .before .before .before .before .before .loop in
+    let size-at2 = c .before .before .before .size-at2 .ensures in
+    let stays-largest = c .before .before .stays-largest in
+    let h = c .before .picked-row .ensures in
+    (search needs, either-below _ (l .p) (a .k + l .t) (stays-largest .result) _ (l .inv .1) (omega arith) h, size-picked (a .w) (a .k) (now (a .work)) (l .p) (a .k + l .t) _ _ (stays-largest .result) _ _ (l .inv .2) size-at2 h (c .picked-size .ensures), fold-more _ _ _ _ _ (l .inv .3) (row-picked (a .w) (a .k) (now (a .work)) (l .p) (a .k + l .t) _ _ (stays-largest .result) _ (l .inv .2) size-at2 (stays-largest .ensures) h))
 
 returns : tie.Need-returns Inv-loop μ-loop
 unfolding pivotRow

@@ -44,7 +44,10 @@ loop-less : tie.Need-loop-less Inv-loop μ-loop
 loop-less c = search needs
 
 loop-again : tie.Need-loop-again Inv-loop μ-loop
-loop-again c = let e = next-scale (c .before .before .before .before .loop .s) (at (now (c .before .before .before .before .before .before .args .row)) (c .before .before .before .before .loop .k)) _ _ (c .before .before .before .before .loop .inv .3) (c .before .size-of .ensures) (c .larger .ensures) in (search needs, search needs, fold-more _ _ _ _ _ (c .before .before .before .before .loop .inv .2) (e .0), e .1)
+loop-again c =
+    let l = c .before .before .before .before .loop in
+    let e = next-scale (l .s) (at (now (c .before .before .before .before .before .before .args .row)) (l .k)) _ _ (l .inv .3) (c .before .size-of .ensures) (c .larger .ensures) in
+    (search needs, search needs, fold-more _ _ _ _ _ (l .inv .2) (e .0), e .1)
 
 returns : tie.Need-returns Inv-loop μ-loop
 unfolding scaleOf

@@ -20,13 +20,22 @@ loop-holds : tie.Need-loop-holds Inv-loop μ-loop
 loop-holds c = (search needs, scale-none _ _)
 
 mul-start : tie.Need-mul-start Inv-loop μ-loop
-mul-start c = omega (arith, row-fits (c .before .loop .i) (c .before .before .before .args .n) (c .before .before .before .args .n) _ (c .loop-test .taken) (c .before .before .before .pre .1))
+mul-start c =
+    let o = c .before .before .before in
+    let a = o .args in
+    omega (arith, row-fits (c .before .loop .i) (a .n) (a .n) _ (c .loop-test .taken) (o .pre .1))
 
 add-end : tie.Need-add-end Inv-loop μ-loop
-add-end c = omega (arith, row-fits (c .before .loop .i) (c .before .before .before .args .n) (c .before .before .before .args .n) _ (c .loop-test .taken) (c .before .before .before .pre .1))
+add-end c =
+    let o = c .before .before .before in
+    let a = o .args in
+    omega (arith, row-fits (c .before .loop .i) (a .n) (a .n) _ (c .loop-test .taken) (o .pre .1))
 
 mul-row-scale : tie.Need-mul-row-scale Inv-loop μ-loop
-mul-row-scale c = omega (arith, row-fits (c .before .loop .i) (c .before .before .before .args .n) (c .before .before .before .args .n) _ (c .loop-test .taken) (c .before .before .before .pre .1))
+mul-row-scale c =
+    let o = c .before .before .before in
+    let a = o .args in
+    omega (arith, row-fits (c .before .loop .i) (a .n) (a .n) _ (c .loop-test .taken) (o .pre .1))
 
 sub-row-scale : tie.Need-sub-row-scale Inv-loop μ-loop
 sub-row-scale c = search needs
@@ -35,7 +44,10 @@ part-row-scale-start : tie.Need-part-row-scale-start Inv-loop μ-loop
 part-row-scale-start c = search needs
 
 part-row-scale-end : tie.Need-part-row-scale-end Inv-loop μ-loop
-part-row-scale-end c = omega (arith, row-fits (c .before .loop .i) (c .before .before .before .args .n) (c .before .before .before .args .n) _ (c .loop-test .taken) (c .before .before .before .pre .1))
+part-row-scale-end c =
+    let o = c .before .before .before in
+    let a = o .args in
+    omega (arith, row-fits (c .before .loop .i) (a .n) (a .n) _ (c .loop-test .taken) (o .pre .1))
 
 row-scale-requires : tie.Need-row-scale-requires Inv-loop μ-loop
 row-scale-requires c κs = search needs
@@ -50,7 +62,11 @@ loop-less : tie.Need-loop-less Inv-loop μ-loop
 loop-less c = search needs
 
 loop-again : tie.Need-loop-again Inv-loop μ-loop
-loop-again c = (search needs, row-joined (c .before .before .before .before .before .before .args .n) (c .before .before .before .before .loop .i) _ (now (c .before .before .before .before .before .before .args .a)) (c .before .before .before .before .loop .s) _ _ refl (row-fits (c .before .before .before .before .loop .i) (c .before .before .before .before .before .before .args .n) (c .before .before .before .before .before .before .args .n) _ (c .before .before .before .loop-test .taken) (c .before .before .before .before .before .before .pre .1)) (c .before .before .before .before .loop .inv .1) (c .before .row-scale .ensures) (c .larger .ensures))
+loop-again c =
+    let o = c .before .before .before .before .before .before in
+    let a = o .args in
+    let l = c .before .before .before .before .loop in
+    (search needs, row-joined (a .n) (l .i) _ (now (a .a)) (l .s) _ _ refl (row-fits (l .i) (a .n) (a .n) _ (c .before .before .before .loop-test .taken) (o .pre .1)) (l .inv .1) (c .before .row-scale .ensures) (c .larger .ensures))
 
 returns : tie.Need-returns Inv-loop μ-loop
 returns c = scale-end _ _ _ _ (omega arith) (c .before .loop .inv .1)

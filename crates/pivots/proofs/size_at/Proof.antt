@@ -15,7 +15,10 @@ mul-size-of-2 : tie.Need-mul-size-of-2
 mul-size-of-2 c = omega (arith, entry-fits (c .before .args .i) (c .before .args .k) (c .before .args .n) (c .before .args .w) (c .before .pre .1) (c .before .pre .0))
 
 shared-slice-read-size-of : tie.Need-shared-slice-read-size-of
-shared-slice-read-size-of c = omega (arith, entry-fits (c .before .before .args .i) (c .before .before .args .k) (c .before .before .args .n) (c .before .before .args .w) (c .before .before .pre .1) (c .before .before .pre .0))
+shared-slice-read-size-of c =
+    let o = c .before .before in
+    let a = o .args in
+    omega (arith, entry-fits (a .i) (a .k) (a .n) (a .w) (o .pre .1) (o .pre .0))
 
 size-of-requires : tie.Need-size-of-requires
 size-of-requires c κs = search needs

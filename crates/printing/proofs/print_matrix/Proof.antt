@@ -18,8 +18,10 @@ print-header-requires c κs = search needs
 
 returns : tie.Need-returns
 returns c =
-    let d = c .before .before .before .before .args .d in
-    no _ (ap (λ (b : Bool). b && leb (2 * (d * d)) (length (now (c .before .before .before .before .args .result)))) (lt-leb _ _ (c .if1 .taken))) refl
+    let o = c .before .before .before .before in
+    let a = o .args in
+    let d = a .d in
+    no _ (ap (λ (b : Bool). b && leb (2 * (d * d)) (length (now (a .result)))) (lt-leb _ _ (c .if1 .taken))) refl
 
 mul-count : tie.Need-mul-count
 mul-count c = omega (arith, mul-le-mul (c .if1 .left) (c .if1 .left))

@@ -15,7 +15,9 @@ middle-requires-2 : tie.Need-middle-requires-2
 middle-requires-2 c κs = search needs
 
 returns : tie.Need-returns
-returns c = found-by _ _ _ _ _ (c .before .before .before .before .pre .0) (c .before .before .before .before .pre .1) (c .before .middle2 .ensures) (c .before .before .before .middle .ensures) (c .if2 .taken) (c .before .before .if1 .taken) (omega arith)
+returns c =
+    let o = c .before .before .before .before in
+    found-by _ _ _ _ _ (o .pre .0) (o .pre .1) (c .before .middle2 .ensures) (c .before .before .before .middle .ensures) (c .if2 .taken) (c .before .before .if1 .taken) (omega arith)
 
 sub-middle-2 : tie.Need-sub-middle-2
 sub-middle-2 c = search needs
@@ -27,7 +29,9 @@ sub-result : tie.Need-sub-result
 sub-result c = search needs
 
 returns-2 : tie.Need-returns-2
-returns-2 c = found-by _ _ _ _ _ (c .before .before .before .before .before .before .pre .0) (c .before .before .before .before .before .before .pre .1) (c .before .middle3 .ensures) (c .before .before .before .middle2 .ensures) (c .if3 .taken) (c .before .before .if2 .left) (omega arith)
+returns-2 c =
+    let o = c .before .before .before .before .before .before in
+    found-by _ _ _ _ _ (o .pre .0) (o .pre .1) (c .before .middle3 .ensures) (c .before .before .before .middle2 .ensures) (c .if3 .taken) (c .before .before .if2 .left) (omega arith)
 
 searched-root-requires : tie.Need-searched-root-requires
 searched-root-requires c κs = search needs
@@ -39,13 +43,17 @@ add-middle : tie.Need-add-middle
 add-middle c = search needs
 
 middle-requires-4 : tie.Need-middle-requires-4
-middle-requires-4 c κs = not-last _ _ _ (c .before .before .pre .1) (c .before .before .pre .3) (c .before .middle .ensures) (c .if1 .left)
+middle-requires-4 c κs =
+    let o = c .before .before in
+    not-last _ _ _ (o .pre .1) (o .pre .3) (c .before .middle .ensures) (c .if1 .left)
 
 add-result : tie.Need-add-result
 add-result c = search needs
 
 returns-4 : tie.Need-returns-4
-returns-4 c = found-by _ _ _ _ _ (c .before .before .before .before .pre .0) (c .before .before .before .before .pre .1) (c .before .before .before .middle .ensures) (c .before .middle4 .ensures) (c .before .before .if1 .left) (c .if4 .taken) (omega arith)
+returns-4 c =
+    let o = c .before .before .before .before in
+    found-by _ _ _ _ _ (o .pre .0) (o .pre .1) (c .before .before .before .middle .ensures) (c .before .middle4 .ensures) (c .before .before .if1 .left) (c .if4 .taken) (omega arith)
 
 searched-root-requires-2 : tie.Need-searched-root-requires-2
 searched-root-requires-2 c κs = search needs

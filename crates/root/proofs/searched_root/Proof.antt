@@ -29,7 +29,9 @@ loop-again : tie.Need-loop-again Inv-loop μ-loop
 loop-again c = search needs
 
 returns : tie.Need-returns Inv-loop μ-loop
-returns c = let inv = c .before .loop .inv in found _ _ _ (c .before .before .pre .0) (c .before .before .pre .1) (inv .low) (inv .high) (omega (arith, inv .order))
+returns c =
+    let o = c .before .before in
+    let inv = c .before .loop .inv in found _ _ _ (o .pre .0) (o .pre .1) (inv .low) (inv .high) (omega (arith, inv .order))
 
 pub searched-root-spec : {M : Type 1} → statement M
 searched-root-spec =

@@ -51,12 +51,13 @@ loop-less c = search needs
 loop-again : tie.Need-loop-again Inv-loop μ-loop
 unfolding ofBits
 loop-again c =
+    let trial = c .before .before .before .before .before .before .before .before .before .before .before .before .before .trial in
     let l = c .before .before .before .before .before .before .before .before .before .before .before .before .before .before .before .before .loop in
     let s = c .before .before .before .before .before .before .before .before .before .before .before .before .before .before .before .before .before .before .before .before .before .before .before .before .before in
     let J = jobBy (now (s .args .card)) (s .args .h) (now (s .args .places)) (s .args .c) in
-    let t = trial-by J (now (s .args .xs)) (now (s .args .g)) (l .k) _ (l .s) _ (l .inv .1 ∙ s .pre .3) (l .inv .4) (c .before .before .before .before .before .before .before .before .before .before .before .before .before .trial .ensures) in (
+    let t = trial-by J (now (s .args .xs)) (now (s .args .g)) (l .k) _ (l .s) _ (l .inv .1 ∙ s .pre .3) (l .inv .4) (trial .ensures) in (
       omega (arith, c .before .before .before .before .before .before .before .before .before .before .before .before .before .before .before .loop-test .taken),
-      c .before .before .before .before .before .before .before .before .before .before .before .before .before .trial .kept .1 .1 .1 .0 ∙ l .inv .1,
+      trial .kept .1 .1 .1 .0 ∙ l .inv .1,
       search needs,
       search needs,
       length-halved J (l .k) (l .s) (l .inv .4),
@@ -77,12 +78,15 @@ same-length-3 c = search needs
 
 returns : tie.Need-returns Inv-loop μ-loop
 returns c =
+    let loop-test = c .before .before .before .before .before .before .before .before .before .before .before .before .before .before .before .loop-test .taken in
+    let evaluate = c .before .before .before .before .before .before .before .evaluate .ensures in
+    let judge = c .before .before .judge .ensures in
     let l = c .before .before .before .before .before .before .before .before .before .before .before .before .before .before .before .before .loop in
     let s = c .before .before .before .before .before .before .before .before .before .before .before .before .before .before .before .before .before .before .before .before .before .before .before .before .before in
     let J = jobBy (now (s .args .card)) (s .args .h) (now (s .args .places)) (s .args .c) in
     let t = trial-by J (now (s .args .xs)) (now (s .args .g)) (l .k) _ (l .s) _ (l .inv .1 ∙ s .pre .3) (l .inv .4) (c .before .before .before .before .before .before .before .before .before .before .before .before .before .trial .ensures) in (
-      search-found J (now (s .args .xs)) (now (s .args .g)) (s .args .o) (l .k) _ _ _ (l .inv .5) t (c .before .before .before .before .before .before .before .evaluate .ensures .0) (c .before .before .judge .ensures) (s .args .c .«max_backtracks») (c .before .before .before .before .before .before .before .before .before .before .before .before .before .before .before .loop-test .taken) (c .enum-told2 .given .1),
-      found-at J (now (s .args .xs)) (now (s .args .g)) (s .args .o) (l .k) _ _ _ (l .inv .5) t (c .before .before .before .before .before .before .before .evaluate .ensures .0) (c .before .before .judge .ensures) (c .before .before .before .before .before .before .before .before .before .before .before .before .before .before .before .loop-test .taken),
+      search-found J (now (s .args .xs)) (now (s .args .g)) (s .args .o) (l .k) _ _ _ (l .inv .5) t (evaluate .0) judge (s .args .c .«max_backtracks») loop-test (c .enum-told2 .given .1),
+      found-at J (now (s .args .xs)) (now (s .args .g)) (s .args .o) (l .k) _ _ _ (l .inv .5) t (evaluate .0) judge loop-test,
       search needs,
       search needs,
     )
@@ -101,12 +105,15 @@ same-length-6 c = search needs
 
 returns-2 : tie.Need-returns-2 Inv-loop μ-loop
 returns-2 c =
+    let loop-test = c .before .before .before .before .before .before .before .before .before .before .before .before .before .before .before .loop-test .taken in
+    let evaluate = c .before .before .before .before .before .before .before .evaluate .ensures in
+    let judge = c .before .before .judge .ensures in
     let l = c .before .before .before .before .before .before .before .before .before .before .before .before .before .before .before .before .loop in
     let s = c .before .before .before .before .before .before .before .before .before .before .before .before .before .before .before .before .before .before .before .before .before .before .before .before .before in
     let J = jobBy (now (s .args .card)) (s .args .h) (now (s .args .places)) (s .args .c) in
     let t = trial-by J (now (s .args .xs)) (now (s .args .g)) (l .k) _ (l .s) _ (l .inv .1 ∙ s .pre .3) (l .inv .4) (c .before .before .before .before .before .before .before .before .before .before .before .before .before .trial .ensures) in (
-      search-lost J (now (s .args .xs)) (now (s .args .g)) (s .args .o) (l .k) _ _ _ (l .inv .5) t (c .before .before .before .before .before .before .before .evaluate .ensures .0) (c .before .before .judge .ensures) (s .args .c .«max_backtracks») (c .before .before .before .before .before .before .before .before .before .before .before .before .before .before .before .loop-test .taken) (c .enum-told3 .given .1),
-      found-at J (now (s .args .xs)) (now (s .args .g)) (s .args .o) (l .k) _ _ _ (l .inv .5) t (c .before .before .before .before .before .before .before .evaluate .ensures .0) (c .before .before .judge .ensures) (c .before .before .before .before .before .before .before .before .before .before .before .before .before .before .before .loop-test .taken),
+      search-lost J (now (s .args .xs)) (now (s .args .g)) (s .args .o) (l .k) _ _ _ (l .inv .5) t (evaluate .0) judge (s .args .c .«max_backtracks») loop-test (c .enum-told3 .given .1),
+      found-at J (now (s .args .xs)) (now (s .args .g)) (s .args .o) (l .k) _ _ _ (l .inv .5) t (evaluate .0) judge loop-test,
       search needs,
       search needs,
     )

@@ -23,16 +23,28 @@ loop-holds : tie.Need-loop-holds Inv-loop μ-loop
 loop-holds c = (search needs, any-none _ _ _ refl)
 
 mul-start : tie.Need-mul-start Inv-loop μ-loop
-mul-start c = omega (arith, row-in (c .before .loop .k) (c .before .before .before .args .count) (c .before .before .before .args .size) (c .loop-test .taken))
+mul-start c =
+    let o = c .before .before .before in
+    let a = o .args in
+    omega (arith, row-in (c .before .loop .k) (a .count) (a .size) (c .loop-test .taken))
 
 add-start : tie.Need-add-start Inv-loop μ-loop
-add-start c = omega (arith, row-in (c .before .loop .k) (c .before .before .before .args .count) (c .before .before .before .args .size) (c .loop-test .taken))
+add-start c =
+    let o = c .before .before .before in
+    let a = o .args in
+    omega (arith, row-in (c .before .loop .k) (a .count) (a .size) (c .loop-test .taken))
 
 add-end : tie.Need-add-end Inv-loop μ-loop
-add-end c = omega (arith, row-in (c .before .loop .k) (c .before .before .before .args .count) (c .before .before .before .args .size) (c .loop-test .taken))
+add-end c =
+    let o = c .before .before .before in
+    let a = o .args in
+    omega (arith, row-in (c .before .loop .k) (a .count) (a .size) (c .loop-test .taken))
 
 mul-all-finite : tie.Need-mul-all-finite Inv-loop μ-loop
-mul-all-finite c = omega (arith, row-in (c .before .loop .k) (c .before .before .before .args .count) (c .before .before .before .args .size) (c .loop-test .taken))
+mul-all-finite c =
+    let o = c .before .before .before in
+    let a = o .args in
+    omega (arith, row-in (c .before .loop .k) (a .count) (a .size) (c .loop-test .taken))
 
 sub-all-finite : tie.Need-sub-all-finite Inv-loop μ-loop
 sub-all-finite c = search needs
@@ -41,7 +53,10 @@ part-all-finite-start : tie.Need-part-all-finite-start Inv-loop μ-loop
 part-all-finite-start c = search needs
 
 part-all-finite-end : tie.Need-part-all-finite-end Inv-loop μ-loop
-part-all-finite-end c = omega (arith, row-in (c .before .loop .k) (c .before .before .before .args .count) (c .before .before .before .args .size) (c .loop-test .taken))
+part-all-finite-end c =
+    let o = c .before .before .before in
+    let a = o .args in
+    omega (arith, row-in (c .before .loop .k) (a .count) (a .size) (c .loop-test .taken))
 
 all-finite-requires : tie.Need-all-finite-requires Inv-loop μ-loop
 all-finite-requires c κs = search needs
@@ -56,7 +71,11 @@ loop-less : tie.Need-loop-less Inv-loop μ-loop
 loop-less c = search needs
 
 loop-again : tie.Need-loop-again Inv-loop μ-loop
-loop-again c = (search needs, any-more _ _ _ _ _ _ (c .before .before .before .before .loop .inv .1) (c .either .ensures) (ap not (c .before .all-finite .ensures ∙ ap allFinite (part-lent (c .before .before .before .before .before .before .args .first + c .before .before .before .before .loop .k * c .before .before .before .before .before .before .args .size) _ (c .before .before .before .before .before .before .args .size) (now (c .before .before .before .before .before .before .args .numbers)) refl))))
+loop-again c =
+    let o = c .before .before .before .before .before .before in
+    let a = o .args in
+    let l = c .before .before .before .before .loop in
+    (search needs, any-more _ _ _ _ _ _ (l .inv .1) (c .either .ensures) (ap not (c .before .all-finite .ensures ∙ ap allFinite (part-lent (a .first + l .k * a .size) _ (a .size) (now (a .numbers)) refl))))
 
 returns : tie.Need-returns Inv-loop μ-loop
 returns c = any-end _ _ _ _ _ (omega arith) (c .before .loop .inv .1)

@@ -24,8 +24,9 @@ enum-told c = search needs
 
 check-model-requires : tie.Need-check-model-requires
 check-model-requires c κs =
-    let k = counted _ (now (c .before .before .before .before .before .before .before .args .numbers)) (sym (c .enum-told .given .1) ∙ c .before .before .check-count .ensures) in
-    (c .before .before .before .before .before .before .before .pre .0, le-of-eq (sym (k ∙ c .before .before .before .model-size .ensures)))
+    let o = c .before .before .before .before .before .before .before in
+    let k = counted _ (now (o .args .numbers)) (sym (c .enum-told .given .1) ∙ c .before .before .check-count .ensures) in
+    (o .pre .0, le-of-eq (sym (k ∙ c .before .before .before .model-size .ensures)))
 
 check-gates-requires : tie.Need-check-gates-requires
 check-gates-requires c κs = search needs

@@ -38,11 +38,15 @@ beyond d effects gates n a b e f g h i = sym (i ∙ ap₂ _||_ f (h ∙ ap₂ _|
 
 returns : tie.Need-returns
 unfolding limitsVerdict limitsOf
-returns c = let s = c .before .before .before .before .before .before .before .before .args in yes _ (beyond (s .d) (s .effects) (s .gates) (s .n) (c .before .before .before .before .before .before .before .less .ensures) (c .before .before .before .before .before .before .less2 .ensures) (c .before .before .before .before .before .either .ensures) (c .before .before .before .before .less3 .ensures) (c .before .before .before .less4 .ensures) (c .before .before .either2 .ensures) (c .before .either3 .ensures) ∙ c .if1 .taken)
+returns c =
+    let s = c .before .before .before .before .before .before .before .before .args in
+    yes _ (beyond (s .d) (s .effects) (s .gates) (s .n) (c .before .before .before .before .before .before .before .less .ensures) (c .before .before .before .before .before .before .less2 .ensures) (c .before .before .before .before .before .either .ensures) (c .before .before .before .before .less3 .ensures) (c .before .before .before .less4 .ensures) (c .before .before .either2 .ensures) (c .before .either3 .ensures) ∙ c .if1 .taken)
 
 returns-2 : tie.Need-returns-2
 unfolding limitsVerdict limitsOf
-returns-2 c = let s = c .before .before .before .before .before .before .before .before .args in no _ (beyond (s .d) (s .effects) (s .gates) (s .n) (c .before .before .before .before .before .before .before .less .ensures) (c .before .before .before .before .before .before .less2 .ensures) (c .before .before .before .before .before .either .ensures) (c .before .before .before .before .less3 .ensures) (c .before .before .before .less4 .ensures) (c .before .before .either2 .ensures) (c .before .either3 .ensures) ∙ c .if1 .left) refl
+returns-2 c =
+    let s = c .before .before .before .before .before .before .before .before .args in
+    no _ (beyond (s .d) (s .effects) (s .gates) (s .n) (c .before .before .before .before .before .before .before .less .ensures) (c .before .before .before .before .before .before .less2 .ensures) (c .before .before .before .before .before .either .ensures) (c .before .before .before .before .less3 .ensures) (c .before .before .before .less4 .ensures) (c .before .before .either2 .ensures) (c .before .either3 .ensures) ∙ c .if1 .left) refl
 
 pub check-limits-spec : {M : Type 1} → statement M
 check-limits-spec =

@@ -44,7 +44,10 @@ same-length : tie.Need-same-length Inv-loop μ-loop
 same-length c = search needs
 
 returns : tie.Need-returns Inv-loop μ-loop
-returns c = fill-end _ _ _ (length (now (c .before .before .args .sequence))) _ (omega arith) (c .before .loop .inv .2) ∙ ap (λ (l : List ℕ). l ++ drop (length (now (c .before .before .args .sequence))) (now (c .before .before .args .out))) (build-all 0 (now (c .before .before .args .sequence)))
+returns c =
+    let o = c .before .before in
+    let a = o .args in
+    fill-end _ _ _ (length (now (a .sequence))) _ (omega arith) (c .before .loop .inv .2) ∙ ap (λ (l : List ℕ). l ++ drop (length (now (a .sequence))) (now (a .out))) (build-all 0 (now (a .sequence)))
 
 pub copy-spec : {M : Type 1} → statement M
 copy-spec =

@@ -24,7 +24,9 @@ slice-aggregate-probabilities : tie.Need-slice-aggregate-probabilities
 slice-aggregate-probabilities c = sym (length-take-le _ _ (search needs))
 
 probabilities-requires : tie.Need-probabilities-requires
-probabilities-requires c κs = (search needs, search needs, search needs, search needs, gates-lie _ _ _ (c .before .before .before .before .before .before .before .indices .ensures .1) (c .before .before .before .before .before .before .before .before .before .before .before .before .pre .3) (c .before .before .before .before .before .before .before .before .before .before .before .before .args .d) _ (omega (arith, products _ _ _ (c .before .before .before .before .before .before .before .before .before .before .before .before .pre .0) .2)))
+probabilities-requires c κs =
+    let o = c .before .before .before .before .before .before .before .before .before .before .before .before in
+    (search needs, search needs, search needs, search needs, gates-lie _ _ _ (c .before .before .before .before .before .before .before .indices .ensures .1) (o .pre .3) (o .args .d) _ (omega (arith, products _ _ _ (o .pre .0) .2)))
 
 same-length : tie.Need-same-length
 same-length c = search needs
@@ -33,7 +35,11 @@ same-length-2 : tie.Need-same-length-2
 same-length-2 c = search needs
 
 returns : tie.Need-returns
-returns c = (c .before .before .probabilities .ensures ∙ ap (λ (l : List Float). l ++ drop (c .before .before .before .before .before .before .before .before .before .before .before .before .before .before .before .args .effects) (now (c .before .before .before .before .before .before .before .before .before .before .before .before .before .before .before .args .out))) (by-columns _ _ _ (c .before .before .before .before .before .before .before .before .before .before .indices .ensures .1) (c .before .before .before .before .before .before .before .before .before .before .before .before .before .before .before .pre .3) _ _ _ _ _ (c .before .before .before .before .before .before .before .before .gates-by-columns .ensures)), c .before .before .before .before .before .before .before .before .gates-by-columns .ensures)
+returns c =
+    let o = c .before .before .before .before .before .before .before .before .before .before .before .before .before .before .before in
+    let a = o .args in
+    let gates-by-columns = c .before .before .before .before .before .before .before .before .gates-by-columns .ensures in
+    (c .before .before .probabilities .ensures ∙ ap (λ (l : List Float). l ++ drop (a .effects) (now (a .out))) (by-columns _ _ _ (c .before .before .before .before .before .before .before .before .before .before .indices .ensures .1) (o .pre .3) _ _ _ _ _ gates-by-columns), gates-by-columns)
 
 pub probabilities-spec : {M : Type 1} → statement M
 probabilities-spec =

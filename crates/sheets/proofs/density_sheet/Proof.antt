@@ -26,13 +26,19 @@ mul-emit-2 : tie.Need-mul-emit-2
 mul-emit-2 c = omega (arith, parts-most (c .before .two-to .result) (c .before .two-to .ensures .1))
 
 emit-requires : tie.Need-emit-requires
-emit-requires c κs = let s = c .before .before .before .before .before .before .before .before .before .before .before .before in (omega (arith, parts-most (c .before .before .two-to .result) (c .before .before .two-to .ensures .1), c .before .before .before .before .before .before .before .invert-density .kept), omega (arith, parts-most (c .before .before .two-to .result) (c .before .before .two-to .ensures .1), s .pre .2))
+emit-requires c κs =
+    let two-to = c .before .before .two-to in
+    let s = c .before .before .before .before .before .before .before .before .before .before .before .before in
+    (omega (arith, parts-most (two-to .result) (two-to .ensures .1), c .before .before .before .before .before .before .before .invert-density .kept), omega (arith, parts-most (two-to .result) (two-to .ensures .1), s .pre .2))
 
 same-length : tie.Need-same-length
 same-length c = c .before .before .before .before .work .given
 
 returns : tie.Need-returns
-returns c = let s = c .before .before .before .before .before .before .before .before .before .before in (stays (now (s .args .result)) (density-refused _ _ _ (c .before .before .before .before .before .invert-density .ensures .0) _ (c .before .found .given .1)), c .before .before .before .before .before .invert-density .ensures .1)
+returns c =
+    let invert-density = c .before .before .before .before .before .invert-density .ensures in
+    let s = c .before .before .before .before .before .before .before .before .before .before in
+    (stays (now (s .args .result)) (density-refused _ _ _ (invert-density .0) _ (c .before .found .given .1)), invert-density .1)
 
 same-length-2 : tie.Need-same-length-2
 same-length-2 c = c .before .result .given
@@ -41,7 +47,9 @@ same-length-3 : tie.Need-same-length-3
 same-length-3 c = c .before .before .before .before .before .before .before .before .before .work .given
 
 returns-2 : tie.Need-returns-2
-returns-2 c = (density-shown _ _ _ (c .before .before .before .before .before .before .before .before .before .before .invert-density .ensures .0) _ _ _ _ _ (c .before .before .before .before .before .before .enum-told .given .1) (c .before .before .before .before .before .two-to .ensures .0) (c .before .before .before .before .before .before .before .before .before .before .invert-density .ensures .1) (c .before .before .emit .ensures), c .before .before .before .before .before .before .before .before .before .before .invert-density .ensures .1)
+returns-2 c =
+    let invert-density = c .before .before .before .before .before .before .before .before .before .before .invert-density .ensures in
+    (density-shown _ _ _ (invert-density .0) _ _ _ _ _ (c .before .before .before .before .before .before .enum-told .given .1) (c .before .before .before .before .before .two-to .ensures .0) (invert-density .1) (c .before .before .emit .ensures), invert-density .1)
 
 pub density-sheet-spec : {M : Type 1} → statement M
 density-sheet-spec =

@@ -33,19 +33,25 @@ array-share-prefix-es : tie.Need-array-share-prefix-es
 array-share-prefix-es c = search needs
 
 slice-aggregate-linear-inversion : tie.Need-slice-aggregate-linear-inversion
-slice-aggregate-linear-inversion c = let s = c .before .before .before .before .before .before .before .before .before in sym (front-length (numbersAt (now (s .args .card)) 2 _) _ (c .before .before .before .load .ensures) (length-numbers _ _ _))
+slice-aggregate-linear-inversion c =
+    let s = c .before .before .before .before .before .before .before .before .before in
+    sym (front-length (numbersAt (now (s .args .card)) 2 _) _ (c .before .before .before .load .ensures) (length-numbers _ _ _))
 
 linear-inversion-requires : tie.Need-linear-inversion-requires
-linear-inversion-requires c κs = let s = c .before .before .before .before .before .before .before .before .before .before in (s .pre .0, front-length (numbersAt (now (s .args .card)) 2 _) _ (c .before .before .before .before .load .ensures) (length-numbers _ _ _) ∙ c .before .before .before .before .before .before .before .four-to .ensures .0, omega (arith, two-most (s .args .n) (s .pre .0), s .pre .2))
+linear-inversion-requires c κs =
+    let s = c .before .before .before .before .before .before .before .before .before .before in
+    (s .pre .0, front-length (numbersAt (now (s .args .card)) 2 _) _ (c .before .before .before .before .load .ensures) (length-numbers _ _ _) ∙ c .before .before .before .before .before .before .before .four-to .ensures .0, omega (arith, two-most (s .args .n) (s .pre .0), s .pre .2))
 
 same-length : tie.Need-same-length
 same-length c = c .before .work .given
 
 returns : tie.Need-returns
 returns c =
+    let tolerance-of = c .before .before .before .before .before .tolerance-of .ensures in
+    let linear-inversion = c .before .before .linear-inversion .ensures in
     let s = c .before .before .before .before .before .before .before .before .before .before .before .before .before in
     let es = front-again (numbersAt (now (s .args .card)) 2 _) _ (c .before .before .before .before .before .before .before .load .ensures) (length-numbers _ _ _) ∙ ap (numbersAt (now (s .args .card)) 2) (c .before .before .before .before .before .before .before .before .before .before .four-to .ensures .0) in
-    (c .before .before .linear-inversion .ensures .0 ∙ ap₂ (λ (x : Float) (y : List Float). invertedOf (s .args .n) x y) (c .before .before .before .before .before .tolerance-of .ensures) es, c .before .before .linear-inversion .ensures .1 ∙ ap₂ (λ (x : Float) (y : List Float). over (computedOf (s .args .n) x y) (now (s .args .work))) (c .before .before .before .before .before .tolerance-of .ensures) es)
+    (linear-inversion .0 ∙ ap₂ (λ (x : Float) (y : List Float). invertedOf (s .args .n) x y) tolerance-of es, linear-inversion .1 ∙ ap₂ (λ (x : Float) (y : List Float). over (computedOf (s .args .n) x y) (now (s .args .work))) tolerance-of es)
 
 pub invert-density-spec : {M : Type 1} → statement M
 invert-density-spec =

@@ -28,28 +28,39 @@ slice-aggregate-load : tie.Need-slice-aggregate-load
 slice-aggregate-load c = search needs
 
 load-requires : tie.Need-load-requires
-load-requires c κs = let s = c .before .before .before .before .before in (omega (arith, c .before .before .square .ensures .0, s .pre .2), omega (arith, c .before .before .square .ensures .0, square-most (s .args .p) (s .pre .1), c .before .vectors-room .ensures))
+load-requires c κs =
+    let square = c .before .before .square .ensures in
+    let s = c .before .before .before .before .before in
+    (omega (arith, square .0, s .pre .2), omega (arith, square .0, square-most (s .args .p) (s .pre .1), c .before .vectors-room .ensures))
 
 array-share-prefix-vectors : tie.Need-array-share-prefix-vectors
-array-share-prefix-vectors c = let s = c .before .before .before .before .before .before .before in front-fits (numbersAt (now (s .args .card)) 2 _) _ (c .before .load .ensures) (length-numbers _ _ _)
+array-share-prefix-vectors c =
+    let s = c .before .before .before .before .before .before .before in
+    front-fits (numbersAt (now (s .args .card)) 2 _) _ (c .before .load .ensures) (length-numbers _ _ _)
 
 slice-aggregate-process-linear-inversion : tie.Need-slice-aggregate-process-linear-inversion
-slice-aggregate-process-linear-inversion c = let s = c .before .before .before .before .before .before .before .before in sym (front-length (numbersAt (now (s .args .card)) 2 _) _ (c .before .before .load .ensures) (length-numbers _ _ _))
+slice-aggregate-process-linear-inversion c =
+    let s = c .before .before .before .before .before .before .before .before in
+    sym (front-length (numbersAt (now (s .args .card)) 2 _) _ (c .before .before .load .ensures) (length-numbers _ _ _))
 
 tolerance-of-requires : tie.Need-tolerance-of-requires
 tolerance-of-requires c κs = search needs
 
 process-linear-inversion-requires : tie.Need-process-linear-inversion-requires
-process-linear-inversion-requires c κs = let s = c .before .before .before .before .before .before .before .before .before .before in (s .pre .0, s .pre .1, omega (arith, front-length (numbersAt (now (s .args .card)) 2 _) _ (c .before .before .before .before .load .ensures) (length-numbers _ _ _), c .before .before .before .before .before .before .before .square .ensures .0), omega (arith, square-most (s .args .p) (s .pre .1), s .pre .3))
+process-linear-inversion-requires c κs =
+    let s = c .before .before .before .before .before .before .before .before .before .before in
+    (s .pre .0, s .pre .1, omega (arith, front-length (numbersAt (now (s .args .card)) 2 _) _ (c .before .before .before .before .load .ensures) (length-numbers _ _ _), c .before .before .before .before .before .before .before .square .ensures .0), omega (arith, square-most (s .args .p) (s .pre .1), s .pre .3))
 
 same-length : tie.Need-same-length
 same-length c = c .before .work .given
 
 returns : tie.Need-returns
 returns c =
+    let tolerance-of = c .before .before .before .before .tolerance-of .ensures in
+    let process-linear-inversion = c .before .before .process-linear-inversion .ensures in
     let s = c .before .before .before .before .before .before .before .before .before .before .before .before .before in
     let v = front-again (numbersAt (now (s .args .card)) 2 _) _ (c .before .before .before .before .before .before .before .load .ensures) (length-numbers _ _ _) ∙ ap (λ (m : ℕ). numbersAt (now (s .args .card)) 2 (2 * m)) (c .before .before .before .before .before .before .before .before .before .before .square .ensures .0) in
-    (c .before .before .process-linear-inversion .ensures .0 ∙ ap₂ (λ (x : Float) (y : List Float). processOf x y (s .args .p)) (c .before .before .before .before .tolerance-of .ensures) v, c .before .before .process-linear-inversion .ensures .1 ∙ ap₂ (λ (x : Float) (y : List Float). over (processNumbers x y (s .args .p)) (now (s .args .work))) (c .before .before .before .before .tolerance-of .ensures) v)
+    (process-linear-inversion .0 ∙ ap₂ (λ (x : Float) (y : List Float). processOf x y (s .args .p)) tolerance-of v, process-linear-inversion .1 ∙ ap₂ (λ (x : Float) (y : List Float). over (processNumbers x y (s .args .p)) (now (s .args .work))) tolerance-of v)
 
 pub invert-process-spec : {M : Type 1} → statement M
 invert-process-spec =

@@ -25,9 +25,11 @@ slice-aggregate-load c = search needs
 
 load-requires : tie.Need-load-requires
 load-requires c κs =
+    let four-to = c .before .before .before .four-to .ensures in
+    let square = c .before .before .square .ensures in
     let s = c .before .before .before .before .before .pre in
-    let q = ap₂ _*_ (c .before .before .before .four-to .ensures .0) (c .before .before .before .four-to .ensures .0) in
-    (omega (arith, s .2, c .before .before .square .ensures .0, q), omega (arith, c .before .transfer-room .ensures, c .before .before .square .ensures .0, q, transfer-most _ (s .1)))
+    let q = ap₂ _*_ (four-to .0) (four-to .0) in
+    (omega (arith, s .2, square .0, q), omega (arith, c .before .transfer-room .ensures, square .0, q, transfer-most _ (s .1)))
 
 word-at-requires : tie.Need-word-at-requires
 word-at-requires c κs = search needs
@@ -43,11 +45,14 @@ tolerance-of-requires c κs = search needs
 
 test-transfer-requires : tie.Need-test-transfer-requires
 test-transfer-requires c κs =
-    let s = c .before .before .before .before .before .before .before .before .before .before .pre in
-    (s .0, s .1, c .before .before .before .before .before .before .before .before .four-to .ensures .0, front-length (numbersAt (now (c .before .before .before .before .before .before .before .before .before .before .args .card)) 3 _) _ (c .before .before .before .before .load .ensures) (length-numbers _ _ _) ∙ c .before .before .before .before .before .before .before .square .ensures .0)
+    let o = c .before .before .before .before .before .before .before .before .before .before in
+    let s = o .pre in
+    (s .0, s .1, c .before .before .before .before .before .before .before .before .four-to .ensures .0, front-length (numbersAt (now (o .args .card)) 3 _) _ (c .before .before .before .before .load .ensures) (length-numbers _ _ _) ∙ c .before .before .before .before .before .before .before .square .ensures .0)
 
 returns : tie.Need-returns
-returns c = physical-of-card _ _ _ _ _ _ (c .before .before .before .before .before .before .before .before .square .ensures .0 ∙ ap₂ _*_ (c .before .before .before .before .before .before .before .before .before .four-to .ensures .0) (c .before .before .before .before .before .before .before .before .before .four-to .ensures .0)) (c .before .tolerance-of .ensures) (c .before .before .before .word-at .ensures) (front-again (numbersAt (now (c .before .before .before .before .before .before .before .before .before .before .before .args .card)) 3 _) _ (c .before .before .before .before .before .load .ensures) (length-numbers _ _ _)) (c .test-transfer .ensures)
+returns c =
+    let four-to = c .before .before .before .before .before .before .before .before .before .four-to .ensures in
+    physical-of-card _ _ _ _ _ _ (c .before .before .before .before .before .before .before .before .square .ensures .0 ∙ ap₂ _*_ (four-to .0) (four-to .0)) (c .before .tolerance-of .ensures) (c .before .before .before .word-at .ensures) (front-again (numbersAt (now (c .before .before .before .before .before .before .before .before .before .before .before .args .card)) 3 _) _ (c .before .before .before .before .before .load .ensures) (length-numbers _ _ _)) (c .test-transfer .ensures)
 
 pub physical-sheet-spec : {M : Type 1} → statement M
 physical-sheet-spec =

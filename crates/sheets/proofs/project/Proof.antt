@@ -24,22 +24,31 @@ slice-aggregate-load : tie.Need-slice-aggregate-load
 slice-aggregate-load c = search needs
 
 load-requires : tie.Need-load-requires
-load-requires c κs = let s = c .before .before .before .before .before in (omega (arith, c .before .before .square .ensures .0, s .pre .2), omega (arith, c .before .before .square .ensures .0, c .before .estimate-room .ensures, estimate-most (s .args .d) (s .pre .1)))
+load-requires c κs =
+    let square = c .before .before .square .ensures in
+    let s = c .before .before .before .before .before in
+    (omega (arith, square .0, s .pre .2), omega (arith, square .0, c .before .estimate-room .ensures, estimate-most (s .args .d) (s .pre .1)))
 
 word-at-requires : tie.Need-word-at-requires
 word-at-requires c κs = search needs
 
 array-share-prefix-estimate : tie.Need-array-share-prefix-estimate
-array-share-prefix-estimate c = let s = c .before .before .before .before .before .before .before .before in omega (arith, c .before .before .before .before .before .square .ensures .0, estimate-most (s .args .d) (s .pre .1), c .before .before .before .before .estimate-room .ensures)
+array-share-prefix-estimate c =
+    let s = c .before .before .before .before .before .before .before .before in
+    omega (arith, c .before .before .before .before .before .square .ensures .0, estimate-most (s .args .d) (s .pre .1), c .before .before .before .before .estimate-room .ensures)
 
 slice-aggregate-project-density : tie.Need-slice-aggregate-project-density
-slice-aggregate-project-density c = let s = c .before .before .before .before .before .before .before .before .before in sym (front-length (numbersAt (now (s .args .card)) 3 _) _ (c .before .before .before .load .ensures) (length-numbers _ _ _))
+slice-aggregate-project-density c =
+    let s = c .before .before .before .before .before .before .before .before .before in
+    sym (front-length (numbersAt (now (s .args .card)) 3 _) _ (c .before .before .before .load .ensures) (length-numbers _ _ _))
 
 tolerance-of-requires : tie.Need-tolerance-of-requires
 tolerance-of-requires c κs = search needs
 
 project-density-requires : tie.Need-project-density-requires
-project-density-requires c κs = let s = c .before .before .before .before .before .before .before .before .before .before .before in (front-length (numbersAt (now (s .args .card)) 3 _) _ (c .before .before .before .before .before .load .ensures) (length-numbers _ _ _) ∙ ap (λ (q : ℕ). 2 * q) (c .before .before .before .before .before .before .before .before .square .ensures .0), s .pre .0, s .pre .1, omega (arith, estimate-most (s .args .d) (s .pre .1), s .pre .3))
+project-density-requires c κs =
+    let s = c .before .before .before .before .before .before .before .before .before .before .before in
+    (front-length (numbersAt (now (s .args .card)) 3 _) _ (c .before .before .before .before .before .load .ensures) (length-numbers _ _ _) ∙ ap (λ (q : ℕ). 2 * q) (c .before .before .before .before .before .before .before .before .square .ensures .0), s .pre .0, s .pre .1, omega (arith, estimate-most (s .args .d) (s .pre .1), s .pre .3))
 
 same-length : tie.Need-same-length
 same-length c = c .before .work .given

@@ -23,13 +23,18 @@ mul-emit : tie.Need-mul-emit
 mul-emit c = search needs
 
 emit-requires : tie.Need-emit-requires
-emit-requires c κs = let s = c .before .before .before .before .before .before .before .before .before .before .before .before in (omega (arith, c .before .square .ensures .0, estimate-most (s .args .d) (s .pre .1), c .before .before .before .before .before .before .before .project .kept, s .pre .4), omega (arith, c .before .square .ensures .0, estimate-most (s .args .d) (s .pre .1), s .pre .3))
+emit-requires c κs =
+    let s = c .before .before .before .before .before .before .before .before .before .before .before .before in
+    (omega (arith, c .before .square .ensures .0, estimate-most (s .args .d) (s .pre .1), c .before .before .before .before .before .before .before .project .kept, s .pre .4), omega (arith, c .before .square .ensures .0, estimate-most (s .args .d) (s .pre .1), s .pre .3))
 
 same-length : tie.Need-same-length
 same-length c = c .before .before .before .before .work .given
 
 returns : tie.Need-returns
-returns c = let s = c .before .before .before .before .before .before .before .before .before .before in (stays (now (s .args .result)) (projected-refused _ _ _ (c .before .before .before .before .before .project .ensures .0) _ (c .before .found .given .1)), c .before .before .before .before .before .project .ensures .1)
+returns c =
+    let project = c .before .before .before .before .before .project .ensures in
+    let s = c .before .before .before .before .before .before .before .before .before .before in
+    (stays (now (s .args .result)) (projected-refused _ _ _ (project .0) _ (c .before .found .given .1)), project .1)
 
 same-length-2 : tie.Need-same-length-2
 same-length-2 c = c .before .result .given
@@ -38,7 +43,9 @@ same-length-3 : tie.Need-same-length-3
 same-length-3 c = c .before .before .before .before .before .before .before .before .before .work .given
 
 returns-2 : tie.Need-returns-2
-returns-2 c = (projected-shown _ _ _ (c .before .before .before .before .before .before .before .before .before .before .project .ensures .0) _ _ _ _ _ (c .before .before .before .before .before .before .enum-told .given .1) (c .before .before .before .before .square .ensures .0) (c .before .before .before .before .before .before .before .before .before .before .project .ensures .1) (c .before .before .emit .ensures), c .before .before .before .before .before .before .before .before .before .before .project .ensures .1)
+returns-2 c =
+    let project = c .before .before .before .before .before .before .before .before .before .before .project .ensures in
+    (projected-shown _ _ _ (project .0) _ _ _ _ _ (c .before .before .before .before .before .before .enum-told .given .1) (c .before .before .before .before .square .ensures .0) (project .1) (c .before .before .emit .ensures), project .1)
 
 pub projected-sheet-spec : {M : Type 1} → statement M
 projected-sheet-spec =

@@ -17,12 +17,16 @@ enum-known-found-2 c = search needs
 
 is-trace-preserving-requires : tie.Need-is-trace-preserving-requires
 is-trace-preserving-requires c κs =
-    let s = c .before .before .before .before .before .pre in
+    let o = c .before .before .before .before .before in
+    let a = o .args in
+    let s = o .pre in
     let k = s .2 in
-    (omega (arith, four-some (c .before .before .before .before .before .args .n), k), omega (arith, four-most (c .before .before .before .before .before .args .n) (s .1), k), omega (arith, s .3))
+    (omega (arith, four-some (a .n), k), omega (arith, four-most (a .n) (s .1), k), omega (arith, s .3))
 
 is-unital-requires : tie.Need-is-unital-requires
-is-unital-requires c κs = let s = c .before .before .before .before .before .before .pre in (omega (arith, four-most (c .before .before .before .before .before .before .args .n) (s .1), s .2), omega (arith, s .3))
+is-unital-requires c κs =
+    let o = c .before .before .before .before .before .before in
+    let s = o .pre in (omega (arith, four-most (o .args .n) (s .1), s .2), omega (arith, s .3))
 
 returns : tie.Need-returns
 returns c = physical-refused _ _ _ _ _ (c .before .before .before .is-completely-positive .ensures) _ (c .before .found .given .1)

@@ -20,7 +20,9 @@ enum-told : tie.Need-enum-told
 enum-told c = search needs
 
 gauge-transform-requires : tie.Need-gauge-transform-requires
-gauge-transform-requires c κs = let s = c .before .before .before .before .before .before in (s .pre .0, s .pre .1, omega (arith, numbers-most (s .args .h) (s .pre .0 .limits), s .pre .2))
+gauge-transform-requires c κs =
+    let s = c .before .before .before .before .before .before in
+    (s .pre .0, s .pre .1, omega (arith, numbers-most (s .args .h) (s .pre .0 .limits), s .pre .2))
 
 returns : tie.Need-returns
 returns c =
@@ -33,9 +35,10 @@ same-length c = c .before .work .given
 
 returns-2 : tie.Need-returns-2
 returns-2 c =
+    let gauge-transform = c .before .before .gauge-transform .ensures in
     let s = c .before .before .before .before .before .before .before .before .before in
     let g = model-good (now (s .args .card)) (s .args .h) _ (c .before .before .before .before .before .before .check-model .ensures) (c .before .before .before .before .enum-told .given .1) in
-    (c .before .before .gauge-transform .ensures .0 ∙ g .0, c .before .before .gauge-transform .ensures .1 ∙ ap (λ (x : List Float). over x (now (s .args .work))) (g .1))
+    (gauge-transform .0 ∙ g .0, gauge-transform .1 ∙ ap (λ (x : List Float). over x (now (s .args .work))) (g .1))
 
 pub transform-spec : {M : Type 1} → statement M
 transform-spec =

@@ -18,7 +18,9 @@ same-length-2 : tie.Need-same-length-2
 same-length-2 c = search needs
 
 returns : tie.Need-returns
-returns c = (order-is _ _ _ _ refl (search needs) (c .before .before .before .before .before .before .before .sort .ensures), sorted-is _ _ _ _ refl (search needs) (c .before .before .before .before .before .before .before .sort .ensures) _ _ (search needs) (c .before .before .gather .ensures))
+returns c =
+    let sort = c .before .before .before .before .before .before .before .sort .ensures in
+    (order-is _ _ _ _ refl (search needs) sort, sorted-is _ _ _ _ refl (search needs) sort _ _ (search needs) (c .before .before .gather .ensures))
 
 pub arrange-spec : {M : Type 1} → statement M
 arrange-spec = tie.close (tie.spec sort-requires gather-requires same-length same-length-2 returns)

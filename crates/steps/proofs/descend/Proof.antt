@@ -26,7 +26,9 @@ room-requires : tie.Need-room-requires
 room-requires c κs = tt
 
 array-share-prefix-x : tie.Need-array-share-prefix-x
-array-share-prefix-x c = let s = c .before .before .before .before .before .before .before .before .before in fits-room _ _ _ _ refl (s .pre .0 .placed .few) (sym (s .pre .2 .room))
+array-share-prefix-x c =
+    let s = c .before .before .before .before .before .before .before .before .before in
+    fits-room _ _ _ _ refl (s .pre .0 .placed .few) (sym (s .pre .2 .room))
 
 slice-aggregate-search : tie.Need-slice-aggregate-search
 slice-aggregate-search c =
@@ -34,7 +36,9 @@ slice-aggregate-search c =
     sym (length-take-le _ _ (fits-room _ _ _ _ refl (s .pre .0 .placed .few) (sym (s .pre .2 .room))))
 
 array-share-prefix-g : tie.Need-array-share-prefix-g
-array-share-prefix-g c = let s = c .before .before .before .before .before .before .before .before .before .before in fits-room _ _ _ _ refl (s .pre .0 .placed .few) (sym (s .pre .3))
+array-share-prefix-g c =
+    let s = c .before .before .before .before .before .before .before .before .before .before in
+    fits-room _ _ _ _ refl (s .pre .0 .placed .few) (sym (s .pre .3))
 
 slice-aggregate-search-2 : tie.Need-slice-aggregate-search-2
 slice-aggregate-search-2 c =
@@ -42,7 +46,9 @@ slice-aggregate-search-2 c =
     sym (length-take-le _ _ (fits-room _ _ _ _ refl (s .pre .0 .placed .few) (sym (s .pre .3))))
 
 array-borrow-prefix-t : tie.Need-array-borrow-prefix-t
-array-borrow-prefix-t c = let s = c .before .before .before .before .before .before .before .before .before .before .before in fits-room _ _ _ _ refl (s .pre .0 .placed .few) (c .before .before .room .ensures)
+array-borrow-prefix-t c =
+    let s = c .before .before .before .before .before .before .before .before .before .before .before in
+    fits-room _ _ _ _ refl (s .pre .0 .placed .few) (c .before .before .room .ensures)
 
 slice-aggregate-search-3 : tie.Need-slice-aggregate-search-3
 slice-aggregate-search-3 c =
@@ -116,9 +122,11 @@ same-length-4 c = c .before .before .before .before .before .before .before .bef
 
 returns-3 : tie.Need-returns-3
 returns-3 c =
+    let room = c .before .before .before .before .before .before .before .before .before .before .before .before .before .before .before .room in
+    let search = c .before .before .before .before .before .before .before .before .before .search .ensures in
     let s = c .before .before .before .before .before .before .before .before .before .before .before .before .before .before .before .before .before .before .before .before .before .before .before .before in
     let J = jobBy (now (s .args .card)) (s .args .h) (now (s .args .places)) (s .args .c) in
-    accepted J (s .args .r) _ (s .pre .2) _ _ (s .pre .4) (s .pre .0 .placed .few) (s .pre .1) (c .before .before .before .before .before .before .before .before .before .before .before .before .before .before .before .before .before .if1 .left) _ (c .before .before .before .before .before .before .before .before .before .search .ensures .0) _ (c .before .before .before .before .before .before .before .before .before .before .before .before .before .before .before .room .result) (sym (c .before .before .before .before .before .before .before .before .before .before .before .before .before .before .before .room .ensures)) (c .before .before .before .before .before .before .before .before .before .search .ensures .1) (c .before .before .found .given .1) (c .moved .ensures)
+    accepted J (s .args .r) _ (s .pre .2) _ _ (s .pre .4) (s .pre .0 .placed .few) (s .pre .1) (c .before .before .before .before .before .before .before .before .before .before .before .before .before .before .before .before .before .if1 .left) _ (search .0) _ (room .result) (sym (room .ensures)) (search .1) (c .before .before .found .given .1) (c .moved .ensures)
 
 same-length-5 : tie.Need-same-length-5
 same-length-5 c = c .before .before .before .before .before .before .before .before .before .search .kept .1 .1 .1 .1 .1 .1 .1 .1 .1 .0

@@ -79,9 +79,10 @@ loop-less c = search needs
 
 loop-again : tie.Need-loop-again Inv-loop μ-loop
 loop-again c =
+    let step = c .before .before .before .before .step in
     let s = c .before .before .before .before .before .before .before .before .before .before .before .before .before .before .before .before in
     let l = c .before .before .before .before .before .before .before .before .before .before .loop in
-    let q = c .before .before .before .before .step .ensures in
+    let q = step .ensures in
     let J = jobBy (now (s .args .card)) (s .args .h) (now (s .args .places)) (s .args .c) in (
       omega (arith, c .before .before .before .before .before .before .before .before .before .loop-test .taken),
       search needs,
@@ -89,7 +90,7 @@ loop-again c =
       omega (arith, q .steps, l .inv .3),
       omega (arith, q .evaluations, l .inv .4),
       q .room,
-      run-more J (length (now (s .args .places))) _ (l .i) (l .r) (l .inv .6) (c .before .before .before .before .step .result) (sym (c .before .before .before .before .before .before .before .before .is-going .ensures) ∙ not-false _ (c .before .before .before .before .before .before .before .if1 .left)) (q .state),
+      run-more J (length (now (s .args .places))) _ (l .i) (l .r) (l .inv .6) (step .result) (sym (c .before .before .before .before .before .before .before .before .is-going .ensures) ∙ not-false _ (c .before .before .before .before .before .before .before .if1 .left)) (q .state),
       q .normed,
     )
 

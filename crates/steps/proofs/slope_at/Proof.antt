@@ -16,7 +16,9 @@ room-requires : tie.Need-room-requires
 room-requires c κs = tt
 
 array-share-prefix-x : tie.Need-array-share-prefix-x
-array-share-prefix-x c = let s = c .before .before .before .before .before .before .before .before in fits-room _ _ _ _ refl (s .pre .0 .placed .few) (sym (s .pre .1 .room))
+array-share-prefix-x c =
+    let s = c .before .before .before .before .before .before .before .before in
+    fits-room _ _ _ _ refl (s .pre .0 .placed .few) (sym (s .pre .1 .room))
 
 slice-aggregate-gradient : tie.Need-slice-aggregate-gradient
 slice-aggregate-gradient c =
@@ -24,7 +26,9 @@ slice-aggregate-gradient c =
     sym (length-take-le _ _ (fits-room _ _ _ _ refl (s .pre .0 .placed .few) (sym (s .pre .1 .room))))
 
 slice-relend-prefix-gradient : tie.Need-slice-relend-prefix-gradient
-slice-relend-prefix-gradient c = let s = c .before .before .before .before .before .before .before .before .before in fits-room _ _ _ _ refl (s .pre .0 .placed .few) (sym (s .pre .2))
+slice-relend-prefix-gradient c =
+    let s = c .before .before .before .before .before .before .before .before .before in
+    fits-room _ _ _ _ refl (s .pre .0 .placed .few) (sym (s .pre .2))
 
 slice-aggregate-gradient-2 : tie.Need-slice-aggregate-gradient-2
 slice-aggregate-gradient-2 c =
@@ -32,7 +36,9 @@ slice-aggregate-gradient-2 c =
     sym (length-take-le _ _ (fits-room _ _ _ _ refl (s .pre .0 .placed .few) (sym (s .pre .2))))
 
 array-borrow-prefix-t : tie.Need-array-borrow-prefix-t
-array-borrow-prefix-t c = let s = c .before .before .before .before .before .before .before .before .before .before in fits-room _ _ _ _ refl (s .pre .0 .placed .few) (c .before .before .room .ensures)
+array-borrow-prefix-t c =
+    let s = c .before .before .before .before .before .before .before .before .before .before in
+    fits-room _ _ _ _ refl (s .pre .0 .placed .few) (c .before .before .room .ensures)
 
 slice-aggregate-gradient-3 : tie.Need-slice-aggregate-gradient-3
 slice-aggregate-gradient-3 c =
@@ -48,13 +54,18 @@ enum-told : tie.Need-enum-told
 enum-told c = c .match .keys1
 
 slice-reshare-prefix-norm : tie.Need-slice-reshare-prefix-norm
-slice-reshare-prefix-norm c = let s = c .before .before .before .before .before .before .before .before .before .before .before .before .before .before .before .before .before .before .before .before .before .before .before in let y = c .before .before .before .before .before .before .before .before .before .gradient .last .1 .1 .1 .1 .1 .1 .1 .0 in front-long (length (now (s .args .places))) y (now (s .args .g)) y refl (c .before .before .before .before .before .before .before .before .before .gradient .kept .1 .1 .1 .1 .1 .1 .1 .0 ∙ length-take-le _ _ (fits-room _ _ _ _ refl (s .pre .0 .placed .few) (sym (s .pre .2))))
+slice-reshare-prefix-norm c =
+    let gradient = c .before .before .before .before .before .before .before .before .before .gradient in
+    let s = c .before .before .before .before .before .before .before .before .before .before .before .before .before .before .before .before .before .before .before .before .before .before .before in
+    let y = gradient .last .1 .1 .1 .1 .1 .1 .1 .0 in
+    front-long (length (now (s .args .places))) y (now (s .args .g)) y refl (gradient .kept .1 .1 .1 .1 .1 .1 .1 .0 ∙ length-take-le _ _ (fits-room _ _ _ _ refl (s .pre .0 .placed .few) (sym (s .pre .2))))
 
 slice-aggregate-norm : tie.Need-slice-aggregate-norm
 slice-aggregate-norm c =
+    let gradient = c .before .before .before .before .before .before .before .before .before .before .gradient in
     let s = c .before .before .before .before .before .before .before .before .before .before .before .before .before .before .before .before .before .before .before .before .before .before .before .before in
-    let y = c .before .before .before .before .before .before .before .before .before .before .gradient .last .1 .1 .1 .1 .1 .1 .1 .0 in
-    sym (length-take-le _ _ (front-long (length (now (s .args .places))) y (now (s .args .g)) y refl (c .before .before .before .before .before .before .before .before .before .before .gradient .kept .1 .1 .1 .1 .1 .1 .1 .0 ∙ length-take-le _ _ (fits-room _ _ _ _ refl (s .pre .0 .placed .few) (sym (s .pre .2))))))
+    let y = gradient .last .1 .1 .1 .1 .1 .1 .1 .0 in
+    sym (length-take-le _ _ (front-long (length (now (s .args .places))) y (now (s .args .g)) y refl (gradient .kept .1 .1 .1 .1 .1 .1 .1 .0 ∙ length-take-le _ _ (fits-room _ _ _ _ refl (s .pre .0 .placed .few) (sym (s .pre .2))))))
 
 norm-requires : tie.Need-norm-requires
 norm-requires c κs = tt
@@ -64,10 +75,11 @@ enum-known-found c = c .match .keys2
 
 same-length : tie.Need-same-length
 same-length c =
+    let gradient = c .before .before .before .before .before .before .before .before .before .before .before .gradient in
     let s = c .before .before .before .before .before .before .before .before .before .before .before .before .before .before .before .before .before .before .before .before .before .before .before .before .before in
     let P = length (now (s .args .places)) in
-    let y = c .before .before .before .before .before .before .before .before .before .before .before .gradient .last .1 .1 .1 .1 .1 .1 .1 .0 in
-    front-keeps P y (now (s .args .g)) y refl (c .before .before .before .before .before .before .before .before .before .before .before .gradient .kept .1 .1 .1 .1 .1 .1 .1 .0 ∙ length-take-le _ _ (fits-room _ _ _ _ refl (s .pre .0 .placed .few) (sym (s .pre .2)))) (fits-room _ _ _ _ refl (s .pre .0 .placed .few) (sym (s .pre .2)))
+    let y = gradient .last .1 .1 .1 .1 .1 .1 .1 .0 in
+    front-keeps P y (now (s .args .g)) y refl (gradient .kept .1 .1 .1 .1 .1 .1 .1 .0 ∙ length-take-le _ _ (fits-room _ _ _ _ refl (s .pre .0 .placed .few) (sym (s .pre .2)))) (fits-room _ _ _ _ refl (s .pre .0 .placed .few) (sym (s .pre .2)))
 
 same-length-2 : tie.Need-same-length-2
 same-length-2 c = c .before .before .before .before .before .before .before .before .before .before .before .gradient .kept .1 .1 .1 .1 .1 .1 .1 .1 .1 .0
@@ -77,19 +89,21 @@ same-length-3 c = c .before .before .before .before .before .before .before .bef
 
 returns : tie.Need-returns
 returns c =
+    let gradient = c .before .before .before .before .before .before .before .before .before .before .before .gradient in
     let s = c .before .before .before .before .before .before .before .before .before .before .before .before .before .before .before .before .before .before .before .before .before .before .before .before .before in
     let P = length (now (s .args .places)) in
-    let y = c .before .before .before .before .before .before .before .before .before .before .before .gradient .last .1 .1 .1 .1 .1 .1 .1 .0 in
-    let n : length y ≡ P = c .before .before .before .before .before .before .before .before .before .before .before .gradient .kept .1 .1 .1 .1 .1 .1 .1 .0 ∙ length-take-le _ _ (fits-room _ _ _ _ refl (s .pre .0 .placed .few) (sym (s .pre .2))) in
+    let y = gradient .last .1 .1 .1 .1 .1 .1 .1 .0 in
+    let n : length y ≡ P = gradient .kept .1 .1 .1 .1 .1 .1 .1 .0 ∙ length-take-le _ _ (fits-room _ _ _ _ refl (s .pre .0 .placed .few) (sym (s .pre .2))) in
     let J = jobBy (now (s .args .card)) (s .args .h) (now (s .args .places)) (s .args .c) in
-    (sloped J (pointOf P (s .args .r)) y (now (s .args .g)) _ (c .before .before .before .before .before .before .before .before .before .before .before .gradient .ensures .0) _ (c .before .before .enum-told .given .1) n (c .norm .ensures), front-keeps P y (now (s .args .g)) y refl n (fits-room _ _ _ _ refl (s .pre .0 .placed .few) (sym (s .pre .2))), c .before .before .before .before .before .before .before .before .before .before .before .gradient .kept .1 .1 .1 .1 .1 .1 .1 .1 .1 .0, c .before .before .before .before .before .before .before .before .before .before .before .gradient .kept .1 .1 .1 .1 .1 .1 .1 .1 .1 .1 .0)
+    (sloped J (pointOf P (s .args .r)) y (now (s .args .g)) _ (gradient .ensures .0) _ (c .before .before .enum-told .given .1) n (c .norm .ensures), front-keeps P y (now (s .args .g)) y refl n (fits-room _ _ _ _ refl (s .pre .0 .placed .few) (sym (s .pre .2))), gradient .kept .1 .1 .1 .1 .1 .1 .1 .1 .1 .0, gradient .kept .1 .1 .1 .1 .1 .1 .1 .1 .1 .1 .0)
 
 same-length-4 : tie.Need-same-length-4
 same-length-4 c =
+    let gradient = c .before .before .before .before .before .before .before .before .before .before .gradient in
     let s = c .before .before .before .before .before .before .before .before .before .before .before .before .before .before .before .before .before .before .before .before .before .before .before .before in
     let P = length (now (s .args .places)) in
-    let y = c .before .before .before .before .before .before .before .before .before .before .gradient .last .1 .1 .1 .1 .1 .1 .1 .0 in
-    front-keeps P y (now (s .args .g)) y refl (c .before .before .before .before .before .before .before .before .before .before .gradient .kept .1 .1 .1 .1 .1 .1 .1 .0 ∙ length-take-le _ _ (fits-room _ _ _ _ refl (s .pre .0 .placed .few) (sym (s .pre .2)))) (fits-room _ _ _ _ refl (s .pre .0 .placed .few) (sym (s .pre .2)))
+    let y = gradient .last .1 .1 .1 .1 .1 .1 .1 .0 in
+    front-keeps P y (now (s .args .g)) y refl (gradient .kept .1 .1 .1 .1 .1 .1 .1 .0 ∙ length-take-le _ _ (fits-room _ _ _ _ refl (s .pre .0 .placed .few) (sym (s .pre .2)))) (fits-room _ _ _ _ refl (s .pre .0 .placed .few) (sym (s .pre .2)))
 
 same-length-5 : tie.Need-same-length-5
 same-length-5 c = c .before .before .before .before .before .before .before .before .before .before .gradient .kept .1 .1 .1 .1 .1 .1 .1 .1 .1 .0

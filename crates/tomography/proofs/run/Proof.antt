@@ -17,7 +17,9 @@ enum-known-read-2 : tie.Need-enum-known-read-2
 enum-known-read-2 c = search needs
 
 run-kind-requires : tie.Need-run-kind-requires
-run-kind-requires c κs = (sym (c .before .before .before .before .before .read .ensures) ∙ c .before .before .before .read3 .given .1, c .before .before .before .before .before .before .before .before .before .pre .0, c .before .before .before .before .before .before .before .before .before .pre .1)
+run-kind-requires c κs =
+    let o = c .before .before .before .before .before .before .before .before .before in
+    (sym (c .before .before .before .before .before .read .ensures) ∙ c .before .before .before .read3 .given .1, o .pre .0, o .pre .1)
 
 returns : tie.Need-returns
 unfolding sheetOf

@@ -20,7 +20,9 @@ returns : tie.Need-returns
 returns c = stays _ (crowded _ _ _ (sym (c .before .has-room .ensures) ∙ not-true _ (c .if1 .taken)))
 
 run-requires : tie.Need-run-requires
-run-requires c κs = let s = c .before .before .before .before .before .before .before .before .before in room-for (now (s .args .result)) (now (s .args .work)) (sym (c .before .before .before .has-room .ensures) ∙ not-false _ (c .before .before .if1 .left))
+run-requires c κs =
+    let s = c .before .before .before .before .before .before .before .before .before in
+    room-for (now (s .args .result)) (now (s .args .work)) (sym (c .before .before .before .has-room .ensures) ∙ not-false _ (c .before .before .if1 .left))
 
 same-length-3 : tie.Need-same-length-3
 same-length-3 c = search needs

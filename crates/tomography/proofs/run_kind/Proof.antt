@@ -14,8 +14,10 @@ use Rattle.tomography.proofs.run_kind.Tie as tie
 
 density-sheet-requires : tie.Need-density-sheet-requires
 density-sheet-requires c κs =
-    let a = accepted (now (c .before .before .before .before .before .before .args .card)) (c .before .before .before .before .before .before .args .h) (c .before .before .before .before .before .before .pre .0) .kind1 (c .before .before .if1 .taken) in
-    (a .few, omega (arith, a .words), c .before .before .before .before .before .before .pre .1, c .before .before .before .before .before .before .pre .2)
+    let o = c .before .before .before .before .before .before in
+    let a-2 = o .args in
+    let a = accepted (now (a-2 .card)) (a-2 .h) (o .pre .0) .kind1 (c .before .before .if1 .taken) in
+    (a .few, omega (arith, a .words), o .pre .1, o .pre .2)
 
 same-length : tie.Need-same-length
 same-length c = search needs
@@ -29,8 +31,10 @@ returns c = same-outcome (yes _ (eq-eqb _ _ (c .before .before .before .before .
 
 projected-sheet-requires : tie.Need-projected-sheet-requires
 projected-sheet-requires c κs =
-    let a = accepted (now (c .before .before .before .before .before .before .before .args .card)) (c .before .before .before .before .before .before .before .args .h) (c .before .before .before .before .before .before .before .pre .0) .kind2 (c .before .before .if2 .taken) in
-    (a .some, a .few, omega (arith, a .words), c .before .before .before .before .before .before .before .pre .1, c .before .before .before .before .before .before .before .pre .2)
+    let o = c .before .before .before .before .before .before .before in
+    let a-2 = o .args in
+    let a = accepted (now (a-2 .card)) (a-2 .h) (o .pre .0) .kind2 (c .before .before .if2 .taken) in
+    (a .some, a .few, omega (arith, a .words), o .pre .1, o .pre .2)
 
 same-length-3 : tie.Need-same-length-3
 same-length-3 c = search needs
@@ -44,8 +48,10 @@ returns-2 c = same-outcome (no _ (ne-eqb _ _ (c .before .before .before .before 
 
 process-sheet-requires : tie.Need-process-sheet-requires
 process-sheet-requires c κs =
-    let a = accepted (now (c .before .before .before .before .before .before .before .before .args .card)) (c .before .before .before .before .before .before .before .before .args .h) (c .before .before .before .before .before .before .before .before .pre .0) .kind3 (c .before .before .if3 .taken) in
-    (a .few, omega (arith, a .words), c .before .before .before .before .before .before .before .before .pre .1, c .before .before .before .before .before .before .before .before .pre .2)
+    let o = c .before .before .before .before .before .before .before .before in
+    let a-2 = o .args in
+    let a = accepted (now (a-2 .card)) (a-2 .h) (o .pre .0) .kind3 (c .before .before .if3 .taken) in
+    (a .few, omega (arith, a .words), o .pre .1, o .pre .2)
 
 same-length-5 : tie.Need-same-length-5
 same-length-5 c = search needs
@@ -59,7 +65,9 @@ returns-3 c = same-outcome (no _ (ne-eqb _ _ (c .before .before .before .before 
 
 physical-sheet-requires : tie.Need-physical-sheet-requires
 physical-sheet-requires c κs =
-    let a = accepted (now (c .before .before .before .before .before .before .before .args .card)) (c .before .before .before .before .before .before .before .args .h) (c .before .before .before .before .before .before .before .pre .0) .kind4 (c .if4 .taken) in
+    let o = c .before .before .before .before .before .before .before in
+    let a-2 = o .args in
+    let a = accepted (now (a-2 .card)) (a-2 .h) (o .pre .0) .kind4 (c .if4 .taken) in
     (a .some, a .few, omega (arith, a .words))
 
 returns-4 : tie.Need-returns-4
@@ -67,7 +75,10 @@ unfolding kindSheet
 returns-4 c = same-outcome (no _ (ne-eqb _ _ (c .before .before .before .before .if1 .left)) (no _ (ne-eqb _ _ (c .before .before .before .if2 .left)) (no _ (ne-eqb _ _ (c .before .before .if3 .left)) (yes _ (eq-eqb _ _ (c .before .if4 .taken)))))) (c .physical-sheet .ensures _)
 
 run-model-requires : tie.Need-run-model-requires
-run-model-requires c κs = (c .before .before .before .before .before .before .before .before .before .pre .0, model-kind (c .before .before .before .before .before .before .before .before .before .args .h) (accepted (now (c .before .before .before .before .before .before .before .before .before .args .card)) (c .before .before .before .before .before .before .before .before .before .args .h) (c .before .before .before .before .before .before .before .before .before .pre .0) .shaped .limits .least) (c .before .before .before .before .before .if1 .left) (c .before .before .before .before .if2 .left) (c .before .before .before .if3 .left) (c .before .before .if4 .left), c .before .before .before .before .before .before .before .before .before .pre .1, c .before .before .before .before .before .before .before .before .before .pre .2)
+run-model-requires c κs =
+    let o = c .before .before .before .before .before .before .before .before .before in
+    let a = o .args in
+    (o .pre .0, model-kind (a .h) (accepted (now (a .card)) (a .h) (o .pre .0) .shaped .limits .least) (c .before .before .before .before .before .if1 .left) (c .before .before .before .before .if2 .left) (c .before .before .before .if3 .left) (c .before .before .if4 .left), o .pre .1, o .pre .2)
 
 same-length-7 : tie.Need-same-length-7
 same-length-7 c = search needs

@@ -14,9 +14,11 @@ use Rattle.tomography.proofs.run_model.Tie as tie
 
 fit-sheet-requires : tie.Need-fit-sheet-requires
 fit-sheet-requires c κs =
-    let a = accepted (now (c .before .before .before .before .before .args .card)) (c .before .before .before .before .before .args .h) (c .before .before .before .before .before .pre .0) in
+    let o = c .before .before .before .before .before in
+    let a-2 = o .args in
+    let a = accepted (now (a-2 .card)) (a-2 .h) (o .pre .0) in
     let f = a .kind5 (c .before .if1 .taken) in
-    (record { shaped = a .shaped; kind = c .before .if1 .taken; sequences = a .sequence; iterations = f .iterations; backtracks = f .backtracks }, c .before .before .before .before .before .pre .2)
+    (record { shaped = a .shaped; kind = c .before .if1 .taken; sequences = a .sequence; iterations = f .iterations; backtracks = f .backtracks }, o .pre .2)
 
 same-length : tie.Need-same-length
 same-length c = search needs
@@ -26,7 +28,10 @@ unfolding modelSheet
 returns c = same-outcome (yes _ (eq-eqb _ _ (c .before .before .before .before .if1 .taken))) (c .before .before .fit-sheet .ensures)
 
 gauge-sheet-requires : tie.Need-gauge-sheet-requires
-gauge-sheet-requires c κs = (accepted (now (c .before .before .before .before .before .before .before .args .card)) (c .before .before .before .before .before .before .before .args .h) (c .before .before .before .before .before .before .before .pre .0) .shaped, c .before .before .if2 .taken, c .before .before .before .before .before .before .before .pre .2, c .before .before .before .before .before .before .before .pre .3)
+gauge-sheet-requires c κs =
+    let o = c .before .before .before .before .before .before .before in
+    let a = o .args in
+    (accepted (now (a .card)) (a .h) (o .pre .0) .shaped, c .before .before .if2 .taken, o .pre .2, o .pre .3)
 
 same-length-2 : tie.Need-same-length-2
 same-length-2 c = search needs
@@ -40,9 +45,11 @@ returns-2 c = same-outcome (no _ (ne-eqb _ _ (c .before .before .before .before 
 
 diagnostics-sheet-requires : tie.Need-diagnostics-sheet-requires
 diagnostics-sheet-requires c κs =
-    let a = accepted (now (c .before .before .before .before .before .before .args .card)) (c .before .before .before .before .before .before .args .h) (c .before .before .before .before .before .before .pre .0) in
-    let k = last-kind (c .before .before .before .before .before .before .args .h) (c .before .before .before .before .before .before .pre .1) (c .before .before .if1 .left) (c .before .if2 .left) (a .shaped .limits .most) in
-    (a .shaped, k, a .sequence, omega (arith, diagnostics-long (c .before .before .before .before .before .before .args .h) k, a .kind7 k .words), c .before .before .before .before .before .before .pre .2)
+    let o = c .before .before .before .before .before .before in
+    let a-2 = o .args in
+    let a = accepted (now (a-2 .card)) (a-2 .h) (o .pre .0) in
+    let k = last-kind (a-2 .h) (o .pre .1) (c .before .before .if1 .left) (c .before .if2 .left) (a .shaped .limits .most) in
+    (a .shaped, k, a .sequence, omega (arith, diagnostics-long (a-2 .h) k, a .kind7 k .words), o .pre .2)
 
 same-length-4 : tie.Need-same-length-4
 same-length-4 c = search needs

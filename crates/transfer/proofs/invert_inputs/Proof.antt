@@ -24,25 +24,35 @@ slice-aggregate-transpose : tie.Need-slice-aggregate-transpose
 slice-aggregate-transpose c = search needs
 
 transpose-requires : tie.Need-transpose-requires
-transpose-requires c κs = let s = c .before .before .before .before .before in (s .pre .0, omega arith, omega (arith, square-most (s .args .p) (s .pre .0)))
+transpose-requires c κs =
+    let s = c .before .before .before .before .before in
+    (s .pre .0, omega arith, omega (arith, square-most (s .args .p) (s .pre .0)))
 
 array-share-prefix-inputs : tie.Need-array-share-prefix-inputs
-array-share-prefix-inputs c = let s = c .before .before .before .before .before .before .before in front-fits (inputsOf (now (s .args .vectors)) (s .args .p)) _ (c .before .transpose .ensures) (length-transposed _ _ ∙ sym (c .before .before .before .before .square .ensures .0))
+array-share-prefix-inputs c =
+    let s = c .before .before .before .before .before .before .before in
+    front-fits (inputsOf (now (s .args .vectors)) (s .args .p)) _ (c .before .transpose .ensures) (length-transposed _ _ ∙ sym (c .before .before .before .before .square .ensures .0))
 
 slice-aggregate-invert : tie.Need-slice-aggregate-invert
-slice-aggregate-invert c = let s = c .before .before .before .before .before .before .before .before in sym (front-length (inputsOf (now (s .args .vectors)) (s .args .p)) _ (c .before .before .transpose .ensures) (length-transposed _ _ ∙ sym (c .before .before .before .before .before .square .ensures .0)))
+slice-aggregate-invert c =
+    let s = c .before .before .before .before .before .before .before .before in
+    sym (front-length (inputsOf (now (s .args .vectors)) (s .args .p)) _ (c .before .before .transpose .ensures) (length-transposed _ _ ∙ sym (c .before .before .before .before .before .square .ensures .0)))
 
 invert-requires : tie.Need-invert-requires
-invert-requires c κs = let s = c .before .before .before .before .before .before .before .before .before in (s .pre .0, omega (arith, front-length (inputsOf (now (s .args .vectors)) (s .args .p)) _ (c .before .before .before .transpose .ensures) (length-transposed _ _ ∙ sym (c .before .before .before .before .before .before .square .ensures .0)), c .before .before .before .before .before .before .square .ensures .0), s .pre .2)
+invert-requires c κs =
+    let square = c .before .before .before .before .before .before .square .ensures in
+    let s = c .before .before .before .before .before .before .before .before .before in
+    (s .pre .0, omega (arith, front-length (inputsOf (now (s .args .vectors)) (s .args .p)) _ (c .before .before .before .transpose .ensures) (length-transposed _ _ ∙ sym (square .0)), square .0), s .pre .2)
 
 same-length : tie.Need-same-length
 same-length c = search needs
 
 returns : tie.Need-returns
 returns c =
+    let invert = c .before .before .invert .ensures in
     let s = c .before .before .before .before .before .before .before .before .before .before .before .before in
     let e = front-again (inputsOf (now (s .args .vectors)) (s .args .p)) _ (c .before .before .before .before .before .before .transpose .ensures) (length-transposed _ _ ∙ sym (c .before .before .before .before .before .before .before .before .before .square .ensures .0)) in
-    (c .before .before .invert .ensures .0 ∙ ap (invertible (s .args .p) (s .args .tolerance)) e, c .before .before .invert .ensures .1 ∙ ap (λ (a : List Float). over (inverseOf (s .args .p) (s .args .tolerance) a) (now (s .args .inverse))) e)
+    (invert .0 ∙ ap (invertible (s .args .p) (s .args .tolerance)) e, invert .1 ∙ ap (λ (a : List Float). over (inverseOf (s .args .p) (s .args .tolerance) a) (now (s .args .inverse))) e)
 
 pub invert-inputs-spec : {M : Type 1} → statement M
 invert-inputs-spec =

@@ -37,7 +37,13 @@ slice-aggregate-transpose : tie.Need-slice-aggregate-transpose
 slice-aggregate-transpose c = search needs
 
 transpose-requires : tie.Need-transpose-requires
-transpose-requires c κs = let v = now (c .before .before .before .before .before .before .before .args .vectors) in let m = c .before .before .before .square .ensures .0 in (c .before .before .before .before .before .before .before .pre .0, omega (arith, m, length-drop (c .before .before .before .square .result) v, ap length (take-all (length v - c .before .before .before .square .result) (drop (c .before .before .before .square .result) v) (omega (arith, length-drop (c .before .before .before .square .result) v)))), omega (arith, square-most (c .before .before .before .before .before .before .before .args .p) (c .before .before .before .before .before .before .before .pre .0)))
+transpose-requires c κs =
+    let o = c .before .before .before .before .before .before .before in
+    let a = o .args in
+    let square = c .before .before .before .square in
+    let v = now (a .vectors) in
+    let m = square .ensures .0 in
+    (o .pre .0, omega (arith, m, length-drop (square .result) v, ap length (take-all (length v - square .result) (drop (square .result) v) (omega (arith, length-drop (square .result) v)))), omega (arith, square-most (a .p) (o .pre .0)))
 
 array-share-prefix-outputs : tie.Need-array-share-prefix-outputs
 array-share-prefix-outputs c = front-fits (transposedOf (c .before .before .before .before .before .before .before .before .before .args .p) _) _ (c .before .transpose .ensures) (length-transposed _ _ ∙ sym (c .before .before .before .before .before .square .ensures .0))
@@ -46,13 +52,23 @@ slice-aggregate-mat-mul : tie.Need-slice-aggregate-mat-mul
 slice-aggregate-mat-mul c = sym (front-length (transposedOf (c .before .before .before .before .before .before .before .before .before .before .args .p) _) _ (c .before .before .transpose .ensures) (length-transposed _ _ ∙ sym (c .before .before .before .before .before .before .square .ensures .0)))
 
 mat-mul-requires : tie.Need-mat-mul-requires
-mat-mul-requires c κs = (c .before .before .before .before .before .before .before .before .before .before .before .pre .0, omega (arith, front-length (transposedOf (c .before .before .before .before .before .before .before .before .before .before .before .args .p) _) _ (c .before .before .before .transpose .ensures) (length-transposed _ _ ∙ sym (c .before .before .before .before .before .before .before .square .ensures .0)), c .before .before .before .before .before .before .before .square .ensures .0), c .before .before .before .before .before .before .before .before .before .before .before .pre .2, c .before .before .before .before .before .before .before .before .before .before .before .pre .3)
+mat-mul-requires c κs =
+    let o = c .before .before .before .before .before .before .before .before .before .before .before in
+    let square = c .before .before .before .before .before .before .before .square .ensures in
+    (o .pre .0, omega (arith, front-length (transposedOf (o .args .p) _) _ (c .before .before .before .transpose .ensures) (length-transposed _ _ ∙ sym (square .0)), square .0), o .pre .2, o .pre .3)
 
 same-length : tie.Need-same-length
 same-length c = search needs
 
 returns : tie.Need-returns
-returns c = let p = c .before .before .before .before .before .before .before .before .before .before .before .before .before .before .args .p in let v = now (c .before .before .before .before .before .before .before .before .before .before .before .before .before .before .args .vectors) in let m = c .before .before .before .before .before .before .before .before .before .before .square .result in c .before .before .mat-mul .ensures ∙ ap (λ (a : List Float). matMulOf p a (now (c .before .before .before .before .before .before .before .before .before .before .before .before .before .before .args .inverse)) ++ drop (p * p) (now (c .before .before .before .before .before .before .before .before .before .before .before .before .before .before .args .out))) (front-again (transposedOf p _) _ (c .before .before .before .before .before .before .transpose .ensures) (length-transposed _ _ ∙ sym (c .before .before .before .before .before .before .before .before .before .before .square .ensures .0)) ∙ ap (transposedOf p) (take-all (length v - m) (drop m v) (omega (arith, length-drop m v)) ∙ ap (λ (k : ℕ). drop k v) (c .before .before .before .before .before .before .before .before .before .before .square .ensures .0)))
+returns c =
+    let o = c .before .before .before .before .before .before .before .before .before .before .before .before .before .before in
+    let a-2 = o .args in
+    let square = c .before .before .before .before .before .before .before .before .before .before .square in
+    let p = a-2 .p in
+    let v = now (a-2 .vectors) in
+    let m = square .result in
+    c .before .before .mat-mul .ensures ∙ ap (λ (a : List Float). matMulOf p a (now (a-2 .inverse)) ++ drop (p * p) (now (a-2 .out))) (front-again (transposedOf p _) _ (c .before .before .before .before .before .before .transpose .ensures) (length-transposed _ _ ∙ sym (square .ensures .0)) ∙ ap (transposedOf p) (take-all (length v - m) (drop m v) (omega (arith, length-drop m v)) ∙ ap (λ (k : ℕ). drop k v) (square .ensures .0)))
 
 pub multiply-outputs-spec : {M : Type 1} → statement M
 multiply-outputs-spec =

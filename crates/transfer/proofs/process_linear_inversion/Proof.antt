@@ -44,10 +44,11 @@ same-length c = search needs
 
 returns-3 : tie.Need-returns-3
 returns-3 c =
+    let solve = c .before .before .solve .ensures in
     let p = sym (c .before .before .before .before .before .before .before .before .is-positive .ensures) ∙ not-false _ (c .before .before .before .before .before .before .before .if1 .left) in
     let v = sym (c .before .before .before .before .enum-told .given .1) ∙ c .before .before .before .before .before .before .vet-all .ensures in
     let l = now (c .before .before .before .before .before .before .before .before .before .before .before .args .out) in
-    (c .before .before .solve .ensures .0 ∙ by-vectors _ _ _ Refused _ _ p v, c .before .before .solve .ensures .1 ∙ ap (λ (z : List Float). over z l) (by-vectors _ _ _ (λ _. []) _ _ p v))
+    (solve .0 ∙ by-vectors _ _ _ Refused _ _ p v, solve .1 ∙ ap (λ (z : List Float). over z l) (by-vectors _ _ _ (λ _. []) _ _ p v))
 
 pub process-linear-inversion-spec : {M : Type 1} → statement M
 process-linear-inversion-spec =

@@ -26,7 +26,9 @@ slice-aggregate-invert-inputs : tie.Need-slice-aggregate-invert-inputs
 slice-aggregate-invert-inputs c = search needs
 
 invert-inputs-requires : tie.Need-invert-inputs-requires
-invert-inputs-requires c κs = let s = c .before .before .before .before .before in (s .pre .0, s .pre .1, omega (arith, square-most (s .args .p) (s .pre .0), c .before .matrix-room .ensures))
+invert-inputs-requires c κs =
+    let s = c .before .before .before .before .before in
+    (s .pre .0, s .pre .1, omega (arith, square-most (s .args .p) (s .pre .0), c .before .matrix-room .ensures))
 
 returns : tie.Need-returns
 returns c =
@@ -35,31 +37,37 @@ returns c =
 
 array-share-prefix-inverse : tie.Need-array-share-prefix-inverse
 array-share-prefix-inverse c =
+    let invert-inputs = c .before .before .invert-inputs .ensures in
     let s = c .before .before .before .before .before .before .before .before in
-    let h = sym (c .before .before .invert-inputs .ensures .0) ∙ not-false _ (c .if1 .left) in
-    front-fits (inverseOf (s .args .p) (s .args .tolerance) (inputsOf (now (s .args .vectors)) (s .args .p))) _ (c .before .before .invert-inputs .ensures .1) (length-inverse _ _ _ h ∙ sym (c .before .before .before .before .before .square .ensures .0))
+    let h = sym (invert-inputs .0) ∙ not-false _ (c .if1 .left) in
+    front-fits (inverseOf (s .args .p) (s .args .tolerance) (inputsOf (now (s .args .vectors)) (s .args .p))) _ (invert-inputs .1) (length-inverse _ _ _ h ∙ sym (c .before .before .before .before .before .square .ensures .0))
 
 slice-aggregate-multiply-outputs : tie.Need-slice-aggregate-multiply-outputs
 slice-aggregate-multiply-outputs c =
+    let invert-inputs = c .before .before .before .invert-inputs .ensures in
     let s = c .before .before .before .before .before .before .before .before .before in
-    let h = sym (c .before .before .before .invert-inputs .ensures .0) ∙ not-false _ (c .before .if1 .left) in
-    sym (front-length (inverseOf (s .args .p) (s .args .tolerance) (inputsOf (now (s .args .vectors)) (s .args .p))) _ (c .before .before .before .invert-inputs .ensures .1) (length-inverse _ _ _ h ∙ sym (c .before .before .before .before .before .before .square .ensures .0)))
+    let h = sym (invert-inputs .0) ∙ not-false _ (c .before .if1 .left) in
+    sym (front-length (inverseOf (s .args .p) (s .args .tolerance) (inputsOf (now (s .args .vectors)) (s .args .p))) _ (invert-inputs .1) (length-inverse _ _ _ h ∙ sym (c .before .before .before .before .before .before .square .ensures .0)))
 
 multiply-outputs-requires : tie.Need-multiply-outputs-requires
 multiply-outputs-requires c κs =
+    let square = c .before .before .before .before .before .before .before .square .ensures in
+    let invert-inputs = c .before .before .before .before .invert-inputs .ensures in
     let s = c .before .before .before .before .before .before .before .before .before .before in
-    let h = sym (c .before .before .before .before .invert-inputs .ensures .0) ∙ not-false _ (c .before .before .if1 .left) in
-    (s .pre .0, s .pre .1, omega (arith, front-length (inverseOf (s .args .p) (s .args .tolerance) (inputsOf (now (s .args .vectors)) (s .args .p))) _ (c .before .before .before .before .invert-inputs .ensures .1) (length-inverse _ _ _ h ∙ sym (c .before .before .before .before .before .before .before .square .ensures .0)), c .before .before .before .before .before .before .before .square .ensures .0), s .pre .2)
+    let h = sym (invert-inputs .0) ∙ not-false _ (c .before .before .if1 .left) in
+    (s .pre .0, s .pre .1, omega (arith, front-length (inverseOf (s .args .p) (s .args .tolerance) (inputsOf (now (s .args .vectors)) (s .args .p))) _ (invert-inputs .1) (length-inverse _ _ _ h ∙ sym (square .0)), square .0), s .pre .2)
 
 slice-reshare-prefix-finite-or : tie.Need-slice-reshare-prefix-finite-or
 slice-reshare-prefix-finite-or c = search needs
 
 slice-aggregate-finite-or : tie.Need-slice-aggregate-finite-or
 slice-aggregate-finite-or c =
+    let square = c .before .before .before .before .before .before .before .before .before .before .before .square .ensures in
+    let invert-inputs = c .before .before .before .before .before .before .before .before .invert-inputs .ensures in
     let s = c .before .before .before .before .before .before .before .before .before .before .before .before .before .before in
-    let h = sym (c .before .before .before .before .before .before .before .before .invert-inputs .ensures .0) ∙ not-false _ (c .before .before .before .before .before .before .if1 .left) in
-    let b = front-again (inverseOf (s .args .p) (s .args .tolerance) (inputsOf (now (s .args .vectors)) (s .args .p))) _ (c .before .before .before .before .before .before .before .before .invert-inputs .ensures .1) (length-inverse _ _ _ h ∙ sym (c .before .before .before .before .before .before .before .before .before .before .before .square .ensures .0)) in
-    sym (front-length (transferOf (s .args .tolerance) (now (s .args .vectors)) (s .args .p)) _ (product-is _ _ _ h _ _ _ b (c .before .before .before .multiply-outputs .ensures)) (length-transfer _ _ _ ∙ sym (c .before .before .before .before .before .before .before .before .before .before .before .square .ensures .0)))
+    let h = sym (invert-inputs .0) ∙ not-false _ (c .before .before .before .before .before .before .if1 .left) in
+    let b = front-again (inverseOf (s .args .p) (s .args .tolerance) (inputsOf (now (s .args .vectors)) (s .args .p))) _ (invert-inputs .1) (length-inverse _ _ _ h ∙ sym (square .0)) in
+    sym (front-length (transferOf (s .args .tolerance) (now (s .args .vectors)) (s .args .p)) _ (product-is _ _ _ h _ _ _ b (c .before .before .before .multiply-outputs .ensures)) (length-transfer _ _ _ ∙ sym (square .0)))
 
 finite-or-requires : tie.Need-finite-or-requires
 finite-or-requires c κs = search needs
@@ -69,11 +77,13 @@ same-length c = search needs
 
 returns-2 : tie.Need-returns-2
 returns-2 c =
+    let square = c .before .before .before .before .before .before .before .before .before .before .before .before .square .ensures in
+    let invert-inputs = c .before .before .before .before .before .before .before .before .before .invert-inputs .ensures in
     let s = c .before .before .before .before .before .before .before .before .before .before .before .before .before .before .before in
-    let h = sym (c .before .before .before .before .before .before .before .before .before .invert-inputs .ensures .0) ∙ not-false _ (c .before .before .before .before .before .before .before .if1 .left) in
-    let b = front-again (inverseOf (s .args .p) (s .args .tolerance) (inputsOf (now (s .args .vectors)) (s .args .p))) _ (c .before .before .before .before .before .before .before .before .before .invert-inputs .ensures .1) (length-inverse _ _ _ h ∙ sym (c .before .before .before .before .before .before .before .before .before .before .before .before .square .ensures .0)) in
+    let h = sym (invert-inputs .0) ∙ not-false _ (c .before .before .before .before .before .before .before .if1 .left) in
+    let b = front-again (inverseOf (s .args .p) (s .args .tolerance) (inputsOf (now (s .args .vectors)) (s .args .p))) _ (invert-inputs .1) (length-inverse _ _ _ h ∙ sym (square .0)) in
     let q = product-is _ _ _ h _ _ _ b (c .before .before .before .before .multiply-outputs .ensures) in
-    (solved _ _ _ h _ _ (front-again (transferOf (s .args .tolerance) (now (s .args .vectors)) (s .args .p)) _ q (length-transfer _ _ _ ∙ sym (c .before .before .before .before .before .before .before .before .before .before .before .before .square .ensures .0))) (c .finite-or .ensures), numbers-over _ _ _ h _ _ q)
+    (solved _ _ _ h _ _ (front-again (transferOf (s .args .tolerance) (now (s .args .vectors)) (s .args .p)) _ q (length-transfer _ _ _ ∙ sym (square .0))) (c .finite-or .ensures), numbers-over _ _ _ h _ _ q)
 
 pub solve-spec : {M : Type 1} → statement M
 solve-spec =

@@ -6,7 +6,10 @@ use Rattle.transfer.proofs.vet_all.Statement.{statement}
 use Rattle.transfer.proofs.vet_all.Tie as tie
 
 vet-each-requires : tie.Need-vet-each-requires
-vet-each-requires c κs = let e : c .before .before .args .p * c .before .before .args .p ≡ 256 = ap (λ (m : ℕ). m * m) (c .if1 .taken) in search needs
+vet-each-requires c κs =
+    let o = c .before .before in
+    let a = o .args in
+    let e : a .p * a .p ≡ 256 = ap (λ (m : ℕ). m * m) (c .if1 .taken) in search needs
 
 returns : tie.Need-returns
 returns c = rw (c .before .if1 .taken) (c .vet-each .ensures)

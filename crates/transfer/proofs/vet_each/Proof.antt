@@ -32,10 +32,14 @@ loop-less : tie.Need-loop-less Inv-loop μ-loop
 loop-less c = search needs
 
 loop-again : tie.Need-loop-again Inv-loop μ-loop
-loop-again c = let s = c .before .before .before .before .before in (search needs, found-more (s .args .tolerance) (now (s .args .vectors)) (s .args .p) _ _ _ _ (c .before .before .before .loop .inv .1) (c .before .vet-vector .ensures) (c .first-of .ensures))
+loop-again c =
+    let s = c .before .before .before .before .before in
+    (search needs, found-more (s .args .tolerance) (now (s .args .vectors)) (s .args .p) _ _ _ _ (c .before .before .before .loop .inv .1) (c .before .vet-vector .ensures) (c .first-of .ensures))
 
 returns : tie.Need-returns Inv-loop μ-loop
-returns c = let s = c .before .before .before in found-all (s .args .tolerance) (now (s .args .vectors)) (s .args .p) _ _ (omega arith) (c .before .loop .inv .1)
+returns c =
+    let s = c .before .before .before in
+    found-all (s .args .tolerance) (now (s .args .vectors)) (s .args .p) _ _ (omega arith) (c .before .loop .inv .1)
 
 pub vet-each-spec : {M : Type 1} → statement M
 vet-each-spec =

@@ -33,7 +33,9 @@ vet-requires : tie.Need-vet-requires
 vet-requires c κs = search needs
 
 returns : tie.Need-returns
-returns c = let s = c .before .before .before in c .vet .ensures ∙ ap (vetOf (s .args .tolerance)) (part-lent (s .args .k * s .args .p) _ (s .args .p) (now (s .args .vectors)) refl)
+returns c =
+    let s = c .before .before .before in
+    c .vet .ensures ∙ ap (vetOf (s .args .tolerance)) (part-lent (s .args .k * s .args .p) _ (s .args .p) (now (s .args .vectors)) refl)
 
 pub vet-vector-spec : {M : Type 1} → statement M
 vet-vector-spec =

@@ -10,25 +10,37 @@ real-requires : tie.Need-real-requires
 real-requires c κs = search needs
 
 write-requires : tie.Need-write-requires
-write-requires c κs = omega (arith, entry-fits (c .before .before .before .args .t .q) (c .before .before .before .args .t .q) (c .before .before .before .args .n) (c .before .before .before .args .n) (c .before .before .before .pre .2) (c .before .before .before .pre .2))
+write-requires c κs =
+    let o = c .before .before .before in
+    let a = o .args in
+    omega (arith, entry-fits (a .t .q) (a .t .q) (a .n) (a .n) (o .pre .2) (o .pre .2))
 
 real-requires-2 : tie.Need-real-requires-2
 real-requires-2 c κs = search needs
 
 write-requires-2 : tie.Need-write-requires-2
-write-requires-2 c κs = omega (arith, entry-fits (c .before .before .before .before .before .before .before .before .args .t .q) (c .before .before .before .before .before .before .before .before .args .t .p) (c .before .before .before .before .before .before .before .before .args .n) (c .before .before .before .before .before .before .before .before .args .n) (c .before .before .before .before .before .before .before .before .pre .2) (c .before .before .before .before .before .before .before .before .pre .1))
+write-requires-2 c κs =
+    let o = c .before .before .before .before .before .before .before .before in
+    let a = o .args in
+    omega (arith, entry-fits (a .t .q) (a .t .p) (a .n) (a .n) (o .pre .2) (o .pre .1))
 
 real-requires-3 : tie.Need-real-requires-3
 real-requires-3 c κs = search needs
 
 write-requires-3 : tie.Need-write-requires-3
-write-requires-3 c κs = omega (arith, entry-fits (c .before .before .before .before .before .before .before .before .before .before .before .before .before .args .t .p) (c .before .before .before .before .before .before .before .before .before .before .before .before .before .args .t .q) (c .before .before .before .before .before .before .before .before .before .before .before .before .before .args .n) (c .before .before .before .before .before .before .before .before .before .before .before .before .before .args .n) (c .before .before .before .before .before .before .before .before .before .before .before .before .before .pre .1) (c .before .before .before .before .before .before .before .before .before .before .before .before .before .pre .2))
+write-requires-3 c κs =
+    let o = c .before .before .before .before .before .before .before .before .before .before .before .before .before in
+    let a = o .args in
+    omega (arith, entry-fits (a .t .p) (a .t .q) (a .n) (a .n) (o .pre .1) (o .pre .2))
 
 real-requires-4 : tie.Need-real-requires-4
 real-requires-4 c κs = search needs
 
 write-requires-4 : tie.Need-write-requires-4
-write-requires-4 c κs = omega (arith, entry-fits (c .before .before .before .before .before .before .before .before .before .before .before .before .before .before .before .before .before .before .args .t .p) (c .before .before .before .before .before .before .before .before .before .before .before .before .before .before .before .before .before .before .args .t .p) (c .before .before .before .before .before .before .before .before .before .before .before .before .before .before .before .before .before .before .args .n) (c .before .before .before .before .before .before .before .before .before .before .before .before .before .before .before .before .before .before .args .n) (c .before .before .before .before .before .before .before .before .before .before .before .before .before .before .before .before .before .before .pre .1) (c .before .before .before .before .before .before .before .before .before .before .before .before .before .before .before .before .before .before .pre .1))
+write-requires-4 c κs =
+    let o = c .before .before .before .before .before .before .before .before .before .before .before .before .before .before .before .before .before .before in
+    let a = o .args in
+    omega (arith, entry-fits (a .t .p) (a .t .p) (a .n) (a .n) (o .pre .1) (o .pre .1))
 
 same-length : tie.Need-same-length
 same-length c = search needs

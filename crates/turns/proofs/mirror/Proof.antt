@@ -38,7 +38,9 @@ same-length : tie.Need-same-length Inv-loop μ-loop
 same-length c = search needs
 
 returns : tie.Need-returns Inv-loop μ-loop
-returns c = mirror-whole _ _ (c .before .before .before .pre .1) _ (length-entries _ _ (c .before .before .before .pre .0)) _ (fold-end _ _ _ _ _ (omega arith) (c .before .loop .inv .2))
+returns c =
+    let o = c .before .before .before in
+    mirror-whole _ _ (o .pre .1) _ (length-entries _ _ (o .pre .0)) _ (fold-end _ _ _ _ _ (omega arith) (c .before .loop .inv .2))
 
 pub mirror-spec : {M : Type 1} → statement M
 mirror-spec =

@@ -7,13 +7,19 @@ use Rattle.turns.proofs.mirror_one.Statement.{statement}
 use Rattle.turns.proofs.mirror_one.Tie as tie
 
 read-requires : tie.Need-read-requires
-read-requires c κs = omega (arith, entry-fits (c .before .before .args .k) (c .before .before .args .c) (c .before .before .args .n) (c .before .before .args .n) (c .before .before .pre .2) (c .before .before .pre .1))
+read-requires c κs =
+    let o = c .before .before in
+    let a = o .args in
+    omega (arith, entry-fits (a .k) (a .c) (a .n) (a .n) (o .pre .2) (o .pre .1))
 
 conjugate-requires : tie.Need-conjugate-requires
 conjugate-requires c κs = search needs
 
 write-requires : tie.Need-write-requires
-write-requires c κs = omega (arith, entry-fits (c .before .before .before .before .before .args .c) (c .before .before .before .before .before .args .k) (c .before .before .before .before .before .args .n) (c .before .before .before .before .before .args .n) (c .before .before .before .before .before .pre .1) (c .before .before .before .before .before .pre .2))
+write-requires c κs =
+    let o = c .before .before .before .before .before in
+    let a = o .args in
+    omega (arith, entry-fits (a .c) (a .k) (a .n) (a .n) (o .pre .1) (o .pre .2))
 
 same-length : tie.Need-same-length
 same-length c = search needs

@@ -22,7 +22,10 @@ same-length : tie.Need-same-length
 same-length c = search needs
 
 returns : tie.Need-returns
-returns c = rw (← rotate-whole (c .before .before .before .before .before .before .before .before .before .before .before .before .before .before .before .before .before .args .n) (c .before .before .before .before .before .before .before .before .before .before .before .before .before .before .before .before .before .args .t) (c .before .before .before .before .before .before .before .before .before .before .before .before .before .before .before .before .before .pre .1) (c .before .before .before .before .before .before .before .before .before .before .before .before .before .before .before .before .before .pre .2) (entries (now (c .before .before .before .before .before .before .before .before .before .before .before .before .before .before .before .before .before .args .a))), ← c .before .before .before .before .before .before .before .before .before .before .before .before .before .before .turn-columns .ensures, ← c .before .before .before .before .before .before .before .before .before .before .mirror .ensures, ← c .before .before .before .before .before .before .mirror2 .ensures) (c .before .before .cross .ensures)
+returns c =
+    let o = c .before .before .before .before .before .before .before .before .before .before .before .before .before .before .before .before .before in
+    let a = o .args in
+    rw (← rotate-whole (a .n) (a .t) (o .pre .1) (o .pre .2) (entries (now (a .a))), ← c .before .before .before .before .before .before .before .before .before .before .before .before .before .before .turn-columns .ensures, ← c .before .before .before .before .before .before .before .before .before .before .mirror .ensures, ← c .before .before .before .before .before .before .mirror2 .ensures) (c .before .before .cross .ensures)
 
 pub rotate-spec : {M : Type 1} → statement M
 rotate-spec =

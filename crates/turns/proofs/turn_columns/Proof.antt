@@ -24,7 +24,10 @@ loop-holds : tie.Need-loop-holds Inv-loop μ-loop
 loop-holds c = (search needs, search needs, fold-none _ _)
 
 turn-row-requires : tie.Need-turn-row-requires Inv-loop μ-loop
-turn-row-requires c κs = omega (arith, row-fits (c .before .before .loop .i) (c .before .before .before .before .args .r) (c .before .before .before .before .args .n) (c .before .before .before .before .args .r * c .before .before .before .before .args .n) (c .before .loop-test .taken) (omega arith))
+turn-row-requires c κs =
+    let o = c .before .before .before .before in
+    let a = o .args in
+    omega (arith, row-fits (c .before .before .loop .i) (a .r) (a .n) (a .r * a .n) (c .before .loop-test .taken) (omega arith))
 
 add-i : tie.Need-add-i Inv-loop μ-loop
 add-i c = search needs
@@ -39,7 +42,9 @@ same-length : tie.Need-same-length Inv-loop μ-loop
 same-length c = search needs
 
 returns : tie.Need-returns Inv-loop μ-loop
-returns c = columns-whole _ _ _ (c .before .before .before .pre .1) (c .before .before .before .pre .2) _ (length-entries _ _ (c .before .before .before .pre .0)) _ (fold-end _ _ _ _ _ (omega arith) (c .before .loop .inv .2))
+returns c =
+    let o = c .before .before .before in
+    columns-whole _ _ _ (o .pre .1) (o .pre .2) _ (length-entries _ _ (o .pre .0)) _ (fold-end _ _ _ _ _ (omega arith) (c .before .loop .inv .2))
 
 pub turn-columns-spec : {M : Type 1} → statement M
 turn-columns-spec =

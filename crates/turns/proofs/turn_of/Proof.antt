@@ -10,7 +10,10 @@ read-requires : tie.Need-read-requires
 read-requires c κs = omega (arith, entry-fits (c .before .args .g .p) (c .before .args .g .p) (c .before .args .n) (c .before .args .n) (c .before .pre .1) (c .before .pre .1))
 
 read-requires-2 : tie.Need-read-requires-2
-read-requires-2 c κs = omega (arith, entry-fits (c .before .before .args .g .q) (c .before .before .args .g .q) (c .before .before .args .n) (c .before .before .args .n) (c .before .before .pre .2) (c .before .before .pre .2))
+read-requires-2 c κs =
+    let o = c .before .before in
+    let a = o .args in
+    omega (arith, entry-fits (a .g .q) (a .g .q) (a .n) (a .n) (o .pre .2) (o .pre .2))
 
 tangent-requires : tie.Need-tangent-requires
 tangent-requires c κs = search needs
@@ -19,7 +22,10 @@ sqrt-from-one-requires : tie.Need-sqrt-from-one-requires
 sqrt-from-one-requires c κs = search needs
 
 read-requires-3 : tie.Need-read-requires-3
-read-requires-3 c κs = omega (arith, entry-fits (c .before .before .before .before .before .args .g .p) (c .before .before .before .before .before .args .g .q) (c .before .before .before .before .before .args .n) (c .before .before .before .before .before .args .n) (c .before .before .before .before .before .pre .1) (c .before .before .before .before .before .pre .2))
+read-requires-3 c κs =
+    let o = c .before .before .before .before .before in
+    let a = o .args in
+    omega (arith, entry-fits (a .g .p) (a .g .q) (a .n) (a .n) (o .pre .1) (o .pre .2))
 
 divided-requires : tie.Need-divided-requires
 divided-requires c κs = search needs
