@@ -7,7 +7,8 @@ use lib.ListN.{take, drop}
 use lib.Ieee.{Float}
 use Rattle.lists.specs.Build.{over}
 use Rattle.lists.proofs.Parts.{front-again, over-front}
-use Rattle.logarithm.specs.Steps.{lnBy, entriesOf}
+use Rattle.numbers.specs.Slice.{at}
+use Rattle.logarithm.specs.Steps.{lnBy}
 use Rattle.logarithm.specs.Error.{Tabled}
 use Rattle.logarithm.proofs.Lent.{by-tables}
 use Rattle.card_layout.specs.declared.Header.{Header}
@@ -24,6 +25,6 @@ module _ (d e gates : ℕ) (m out columns : List Float) (f : columns ≡ columns
   pub columns-over : columns ≡ over (columnsIn d e gates m) out
   columns-over = over-front (columnsIn d e gates m) out (length-columns-in d e gates m) f
 
-pub by-logarithm : (q r : List ℕ) → Tabled q r → (b : Bool) (tolerance : Float) (s : List ℕ) (h : Header) (m : List Float) (l : Likelihood)
-    → l ≡ likelihoodBy (lnBy (entriesOf q) (entriesOf r)) b tolerance s h m → l ≡ likelihoodOf b tolerance s h m
+pub by-logarithm : (q r : List Float) → Tabled q r → (b : Bool) (tolerance : Float) (s : List ℕ) (h : Header) (m : List Float) (l : Likelihood)
+    → l ≡ likelihoodBy (lnBy (at q) (at r)) b tolerance s h m → l ≡ likelihoodOf b tolerance s h m
 by-logarithm q r t b tolerance s h m l e = e ∙ ap (λ (f : Float → Float). likelihoodBy f b tolerance s h m) (by-tables q r t)

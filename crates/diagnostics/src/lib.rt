@@ -11,7 +11,8 @@ ghost use mathlib.Core.Path.{_≡_};
 ghost use Prim.Native.Nat.{ℕ, _*_, _≤_, _<_};
 ghost use lib.ListN.{length};
 ghost use Rattle.lists.specs.Build.{over};
-ghost use Rattle.logarithm.specs.Steps.{lnBy, entriesOf};
+ghost use Rattle.numbers.specs.Slice.{at};
+ghost use Rattle.logarithm.specs.Steps.{lnBy};
 ghost use Rattle.card_places.specs.Shape.{Shaped};
 ghost use Rattle.card_parts.specs.Parts.{sequenceOf, Sequence};
 ghost use Rattle.model_words.specs.Words.{modelNumbers};
@@ -64,8 +65,8 @@ fn probabilities_room() -> [f64; 16]
 
 // Record r, whose gates are all there; its counts and probabilities go to the front of `counts` and `ps`.
 fn weigh_record<'a>(
-    quotients: &'a [u64; 257],
-    remainders: &'a [u64; 257],
+    quotients: &'a [f64; 257],
+    remainders: &'a [f64; 257],
     deviance: bool,
     tolerance: f64,
     card: &[u8],
@@ -79,7 +80,7 @@ fn weigh_record<'a>(
     d: Diagnostics,
 ) -> Likelihood
     requires { ⌜ Shaped (now card) h × (r < h .records) × Columned h (now model) (now columns) × (presentOf (h .gates) (now sequence) ≡ Good) × (16 ≤ length (now counts)) × (16 ≤ length (now ps)) ⌝ }
-    ensures { λ l. ⌜ l ≡ withRecord (lnBy (entriesOf (now (quotients .entry))) (entriesOf (now (remainders .entry)))) deviance tolerance (countsOf (now (card .entry)) h r) (probabilitiesOf (h .dimension) (h .effects) (now (model .entry)) (now (sequence .entry))) d ⌝ }
+    ensures { λ l. ⌜ l ≡ withRecord (lnBy (at (now (quotients .entry))) (at (now (remainders .entry)))) deviance tolerance (countsOf (now (card .entry)) h r) (probabilitiesOf (h .dimension) (h .effects) (now (model .entry)) (now (sequence .entry))) d ⌝ }
 {
     let e = h.effects;
     load_counts(card, h, r, counts);
@@ -97,8 +98,8 @@ fn weigh_record<'a>(
 
 // Adds record r's terms to d; its sequence, counts and probabilities go to the front of their rooms.
 fn add_record<'a>(
-    quotients: &'a [u64; 257],
-    remainders: &'a [u64; 257],
+    quotients: &'a [f64; 257],
+    remainders: &'a [f64; 257],
     deviance: bool,
     tolerance: f64,
     card: &[u8],
@@ -112,7 +113,7 @@ fn add_record<'a>(
     d: Diagnostics,
 ) -> Likelihood
     requires { ⌜ Shaped (now card) h × Sequence (now card) h r × Columned h (now model) (now columns) × (64 ≤ length (now sequence)) × (16 ≤ length (now counts)) × (16 ≤ length (now ps)) ⌝ }
-    ensures { λ l. ⌜ l ≡ recordOnward (lnBy (entriesOf (now (quotients .entry))) (entriesOf (now (remainders .entry)))) deviance tolerance (now (card .entry)) h (now (model .entry)) r d ⌝ }
+    ensures { λ l. ⌜ l ≡ recordOnward (lnBy (at (now (quotients .entry))) (at (now (remainders .entry)))) deviance tolerance (now (card .entry)) h (now (model .entry)) r d ⌝ }
 {
     let n = sequence_length(card, h, r);
     load_sequence(card, h, r, n, sequence);
@@ -139,8 +140,8 @@ fn add_record<'a>(
 
 // The same, where all records before it passed.
 fn record_onward<'a>(
-    quotients: &'a [u64; 257],
-    remainders: &'a [u64; 257],
+    quotients: &'a [f64; 257],
+    remainders: &'a [f64; 257],
     deviance: bool,
     tolerance: f64,
     card: &[u8],
@@ -154,7 +155,7 @@ fn record_onward<'a>(
     l: Likelihood,
 ) -> Likelihood
     requires { ⌜ Shaped (now card) h × Sequence (now card) h r × Columned h (now model) (now columns) × (64 ≤ length (now sequence)) × (16 ≤ length (now counts)) × (16 ≤ length (now ps)) ⌝ }
-    ensures { λ m. ⌜ m ≡ onward (recordOnward (lnBy (entriesOf (now (quotients .entry))) (entriesOf (now (remainders .entry)))) deviance tolerance (now (card .entry)) h (now (model .entry)) r) l ⌝ }
+    ensures { λ m. ⌜ m ≡ onward (recordOnward (lnBy (at (now (quotients .entry))) (at (now (remainders .entry)))) deviance tolerance (now (card .entry)) h (now (model .entry)) r) l ⌝ }
 {
     match l {
         Likelihood::Fit(d) => add_record(
@@ -178,8 +179,8 @@ fn record_onward<'a>(
 }
 
 fn add_records<'a>(
-    quotients: &'a [u64; 257],
-    remainders: &'a [u64; 257],
+    quotients: &'a [f64; 257],
+    remainders: &'a [f64; 257],
     deviance: bool,
     tolerance: f64,
     card: &[u8],
@@ -191,7 +192,7 @@ fn add_records<'a>(
     ps: &mut [f64],
 ) -> Likelihood
     requires { ⌜ Shaped (now card) h × ((r : ℕ) → r < h .records → Sequence (now card) h r) × Columned h (now model) (now columns) × (64 ≤ length (now sequence)) × (16 ≤ length (now counts)) × (16 ≤ length (now ps)) ⌝ }
-    ensures { λ l. ⌜ l ≡ likelihoodBy (lnBy (entriesOf (now (quotients .entry))) (entriesOf (now (remainders .entry)))) deviance tolerance (now (card .entry)) h (now (model .entry)) ⌝ }
+    ensures { λ l. ⌜ l ≡ likelihoodBy (lnBy (at (now (quotients .entry))) (at (now (remainders .entry)))) deviance tolerance (now (card .entry)) h (now (model .entry)) ⌝ }
 {
     let count = h.records;
     let mut l = Likelihood::Fit(Diagnostics {
@@ -261,15 +262,15 @@ pub struct Both {
 
 // One record more, of these counts and probabilities, where all before it passed.
 fn weigh_onward<'a>(
-    quotients: &'a [u64; 257],
-    remainders: &'a [u64; 257],
+    quotients: &'a [f64; 257],
+    remainders: &'a [f64; 257],
     tolerance: f64,
     counts: &[u64],
     ps: &[f64],
     l: Likelihood,
 ) -> Likelihood
     requires { ⌜ length (now counts) ≤ length (now ps) ⌝ }
-    ensures { λ m. ⌜ m ≡ onward (withRecord (lnBy (entriesOf (now (quotients .entry))) (entriesOf (now (remainders .entry)))) false tolerance (now (counts .entry)) (now (ps .entry))) l ⌝ }
+    ensures { λ m. ⌜ m ≡ onward (withRecord (lnBy (at (now (quotients .entry))) (at (now (remainders .entry)))) false tolerance (now (counts .entry)) (now (ps .entry))) l ⌝ }
 {
     match l {
         Likelihood::Fit(d) => {
@@ -282,8 +283,8 @@ fn weigh_onward<'a>(
 
 // The same for both models.
 fn weigh_each<'a>(
-    quotients: &'a [u64; 257],
-    remainders: &'a [u64; 257],
+    quotients: &'a [f64; 257],
+    remainders: &'a [f64; 257],
     tolerance: f64,
     counts: &[u64],
     ps: &[f64],
@@ -291,7 +292,7 @@ fn weigh_each<'a>(
     b: Both,
 ) -> Both
     requires { ⌜ (length (now counts) ≤ length (now ps)) × (length (now counts) ≤ length (now qs)) ⌝ }
-    ensures { λ q. ⌜ (q .first ≡ onward (withRecord (lnBy (entriesOf (now (quotients .entry))) (entriesOf (now (remainders .entry)))) false tolerance (now (counts .entry)) (now (ps .entry))) (b .first)) × (q .second ≡ onward (withRecord (lnBy (entriesOf (now (quotients .entry))) (entriesOf (now (remainders .entry)))) false tolerance (now (counts .entry)) (now (qs .entry))) (b .second)) ⌝ }
+    ensures { λ q. ⌜ (q .first ≡ onward (withRecord (lnBy (at (now (quotients .entry))) (at (now (remainders .entry)))) false tolerance (now (counts .entry)) (now (ps .entry))) (b .first)) × (q .second ≡ onward (withRecord (lnBy (at (now (quotients .entry))) (at (now (remainders .entry)))) false tolerance (now (counts .entry)) (now (qs .entry))) (b .second)) ⌝ }
 {
     let l = b.first;
     let m = b.second;
@@ -302,8 +303,8 @@ fn weigh_each<'a>(
 
 // Record r, whose gates are all there, under both models.
 fn weigh_both<'a>(
-    quotients: &'a [u64; 257],
-    remainders: &'a [u64; 257],
+    quotients: &'a [f64; 257],
+    remainders: &'a [f64; 257],
     tolerance: f64,
     card: &[u8],
     h: Header,
@@ -319,8 +320,8 @@ fn weigh_both<'a>(
     b: Both,
 ) -> Both
     requires { ⌜ Shaped (now card) h × (r < h .records) × Columned h (now model) (now columns) × Columned h (now other) (now others) × (presentOf (h .gates) (now sequence) ≡ Good) × (16 ≤ length (now counts)) × (16 ≤ length (now ps)) × (16 ≤ length (now qs)) ⌝ }
-    ensures { λ q. ⌜ (q .first ≡ onward (withRecord (lnBy (entriesOf (now (quotients .entry))) (entriesOf (now (remainders .entry)))) false tolerance (countsOf (now (card .entry)) h r) (probabilitiesOf (h .dimension) (h .effects) (now (model .entry)) (now (sequence .entry)))) (b .first))
-        × (q .second ≡ onward (withRecord (lnBy (entriesOf (now (quotients .entry))) (entriesOf (now (remainders .entry)))) false tolerance (countsOf (now (card .entry)) h r) (probabilitiesOf (h .dimension) (h .effects) (now (other .entry)) (now (sequence .entry)))) (b .second)) ⌝ }
+    ensures { λ q. ⌜ (q .first ≡ onward (withRecord (lnBy (at (now (quotients .entry))) (at (now (remainders .entry)))) false tolerance (countsOf (now (card .entry)) h r) (probabilitiesOf (h .dimension) (h .effects) (now (model .entry)) (now (sequence .entry)))) (b .first))
+        × (q .second ≡ onward (withRecord (lnBy (at (now (quotients .entry))) (at (now (remainders .entry)))) false tolerance (countsOf (now (card .entry)) h r) (probabilitiesOf (h .dimension) (h .effects) (now (other .entry)) (now (sequence .entry)))) (b .second)) ⌝ }
 {
     let e = h.effects;
     load_counts(card, h, r, counts);
@@ -359,8 +360,8 @@ fn refuse_onward(x: Refusal, l: Likelihood) -> Likelihood
 
 // Record r under both models, where all records before it passed.
 fn add_both<'a>(
-    quotients: &'a [u64; 257],
-    remainders: &'a [u64; 257],
+    quotients: &'a [f64; 257],
+    remainders: &'a [f64; 257],
     tolerance: f64,
     card: &[u8],
     h: Header,
@@ -376,7 +377,7 @@ fn add_both<'a>(
     b: Both,
 ) -> Both
     requires { ⌜ Shaped (now card) h × Sequence (now card) h r × Columned h (now model) (now columns) × Columned h (now other) (now others) × (64 ≤ length (now sequence)) × (16 ≤ length (now counts)) × (16 ≤ length (now ps)) × (16 ≤ length (now qs)) ⌝ }
-    ensures { λ q. ⌜ (q .first ≡ onward (recordOnward (lnBy (entriesOf (now (quotients .entry))) (entriesOf (now (remainders .entry)))) false tolerance (now (card .entry)) h (now (model .entry)) r) (b .first)) × (q .second ≡ onward (recordOnward (lnBy (entriesOf (now (quotients .entry))) (entriesOf (now (remainders .entry)))) false tolerance (now (card .entry)) h (now (other .entry)) r) (b .second)) ⌝ }
+    ensures { λ q. ⌜ (q .first ≡ onward (recordOnward (lnBy (at (now (quotients .entry))) (at (now (remainders .entry)))) false tolerance (now (card .entry)) h (now (model .entry)) r) (b .first)) × (q .second ≡ onward (recordOnward (lnBy (at (now (quotients .entry))) (at (now (remainders .entry)))) false tolerance (now (card .entry)) h (now (other .entry)) r) (b .second)) ⌝ }
 {
     let n = sequence_length(card, h, r);
     load_sequence(card, h, r, n, sequence);
@@ -421,8 +422,8 @@ fn has_ended(l: Likelihood) -> bool
 
 // The same, passed over once neither model goes on.
 fn both_onward<'a>(
-    quotients: &'a [u64; 257],
-    remainders: &'a [u64; 257],
+    quotients: &'a [f64; 257],
+    remainders: &'a [f64; 257],
     tolerance: f64,
     card: &[u8],
     h: Header,
@@ -438,7 +439,7 @@ fn both_onward<'a>(
     b: Both,
 ) -> Both
     requires { ⌜ Shaped (now card) h × Sequence (now card) h r × Columned h (now model) (now columns) × Columned h (now other) (now others) × (64 ≤ length (now sequence)) × (16 ≤ length (now counts)) × (16 ≤ length (now ps)) × (16 ≤ length (now qs)) ⌝ }
-    ensures { λ q. ⌜ (q .first ≡ onward (recordOnward (lnBy (entriesOf (now (quotients .entry))) (entriesOf (now (remainders .entry)))) false tolerance (now (card .entry)) h (now (model .entry)) r) (b .first)) × (q .second ≡ onward (recordOnward (lnBy (entriesOf (now (quotients .entry))) (entriesOf (now (remainders .entry)))) false tolerance (now (card .entry)) h (now (other .entry)) r) (b .second)) ⌝ }
+    ensures { λ q. ⌜ (q .first ≡ onward (recordOnward (lnBy (at (now (quotients .entry))) (at (now (remainders .entry)))) false tolerance (now (card .entry)) h (now (model .entry)) r) (b .first)) × (q .second ≡ onward (recordOnward (lnBy (at (now (quotients .entry))) (at (now (remainders .entry)))) false tolerance (now (card .entry)) h (now (other .entry)) r) (b .second)) ⌝ }
 {
     let l = b.first;
     let m = b.second;
@@ -467,8 +468,8 @@ fn both_onward<'a>(
 }
 
 fn add_records_both<'a>(
-    quotients: &'a [u64; 257],
-    remainders: &'a [u64; 257],
+    quotients: &'a [f64; 257],
+    remainders: &'a [f64; 257],
     tolerance: f64,
     card: &[u8],
     h: Header,
@@ -482,7 +483,7 @@ fn add_records_both<'a>(
     qs: &mut [f64],
 ) -> Both
     requires { ⌜ Shaped (now card) h × ((r : ℕ) → r < h .records → Sequence (now card) h r) × Columned h (now model) (now columns) × Columned h (now other) (now others) × (64 ≤ length (now sequence)) × (16 ≤ length (now counts)) × (16 ≤ length (now ps)) × (16 ≤ length (now qs)) ⌝ }
-    ensures { λ b. ⌜ (b .first ≡ likelihoodBy (lnBy (entriesOf (now (quotients .entry))) (entriesOf (now (remainders .entry)))) false tolerance (now (card .entry)) h (now (model .entry))) × (b .second ≡ likelihoodBy (lnBy (entriesOf (now (quotients .entry))) (entriesOf (now (remainders .entry)))) false tolerance (now (card .entry)) h (now (other .entry))) ⌝ }
+    ensures { λ b. ⌜ (b .first ≡ likelihoodBy (lnBy (at (now (quotients .entry))) (at (now (remainders .entry)))) false tolerance (now (card .entry)) h (now (model .entry))) × (b .second ≡ likelihoodBy (lnBy (at (now (quotients .entry))) (at (now (remainders .entry)))) false tolerance (now (card .entry)) h (now (other .entry))) ⌝ }
 {
     let records = h.records;
     let none = Likelihood::Fit(Diagnostics {

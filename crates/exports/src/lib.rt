@@ -8,7 +8,7 @@ ghost use lib.ListN.{length, drop};
 ghost use Rattle.lists.specs.Build.{build};
 ghost use Rattle.numbers.specs.Slice.{at};
 ghost use Rattle.root.specs.Root.{sqrt};
-ghost use Rattle.logarithm.specs.Steps.{ln, lnBy, entriesOf};
+ghost use Rattle.logarithm.specs.Steps.{ln, lnBy};
 ghost use Rattle.library.specs.Entries.{probesEntry, settingEntry, applyEntry, choiEntry, probabilitiesEntry};
 ghost use Rattle.exports.specs.Exported.{Exported, SheetExported, ReadExported, Mapped};
 
@@ -159,14 +159,14 @@ fn roots(x: &[f64], n: usize, out: &mut [f64])
 }
 
 fn logarithms<'a>(
-    quotients: &'a [u64; 257],
-    remainders: &'a [u64; 257],
+    quotients: &'a [f64; 257],
+    remainders: &'a [f64; 257],
     x: &[f64],
     n: usize,
     out: &mut [f64],
 )
     requires { ⌜ (n ≤ length (now x)) × (n ≤ length (now out)) ⌝ }
-    ensures { λ _. ⌜ now (out .exit) ≡ build n (λ i. lnBy (entriesOf (now (quotients .entry))) (entriesOf (now (remainders .entry))) (at (now (x .entry)) i)) ++ drop n (now (out .entry)) ⌝ }
+    ensures { λ _. ⌜ now (out .exit) ≡ build n (λ i. lnBy (at (now (quotients .entry))) (at (now (remainders .entry))) (at (now (x .entry)) i)) ++ drop n (now (out .entry)) ⌝ }
 {
     for i in 0..n {
         out[i] = logarithm::ln_by(quotients, remainders, x[i]);

@@ -5,7 +5,7 @@ ghost use Prim.Native.Nat.{_≤_};
 ghost use lib.ListN.{length};
 ghost use Rattle.numbers.specs.Slice.{at};
 ghost use Rattle.matrix.specs.Product.{sumOf};
-ghost use Rattle.logarithm.specs.Steps.{lnBy, entriesOf};
+ghost use Rattle.logarithm.specs.Steps.{lnBy};
 ghost use Rattle.likelihood.specs.Multinomial as spec;
 
 // The Rust's `FitDiagnostics`.
@@ -99,15 +99,15 @@ fn add_counts(counts: &[u64]) -> Total
 
 // The term of an outcome seen c times out of t, of probability p.
 fn plus_term<'a>(
-    quotients: &'a [u64; 257],
-    remainders: &'a [u64; 257],
+    quotients: &'a [f64; 257],
+    remainders: &'a [f64; 257],
     deviance: bool,
     t: f64,
     c: f64,
     p: f64,
     d: Diagnostics,
 ) -> Diagnostics
-    ensures { λ r. ⌜ r ≡ spec.plusTerm (lnBy (entriesOf (now (quotients .entry))) (entriesOf (now (remainders .entry)))) deviance t c p d ⌝ }
+    ensures { λ r. ⌜ r ≡ spec.plusTerm (lnBy (at (now (quotients .entry))) (at (now (remainders .entry)))) deviance t c p d ⌝ }
 {
     let likely = d.log_likelihood + c * logarithm::ln_by(quotients, remainders, p);
     if deviance {
@@ -124,15 +124,15 @@ fn plus_term<'a>(
 }
 
 fn with_term<'a>(
-    quotients: &'a [u64; 257],
-    remainders: &'a [u64; 257],
+    quotients: &'a [f64; 257],
+    remainders: &'a [f64; 257],
     deviance: bool,
     t: f64,
     c: f64,
     p: f64,
     d: Diagnostics,
 ) -> Likelihood
-    ensures { λ r. ⌜ r ≡ spec.withTerm (lnBy (entriesOf (now (quotients .entry))) (entriesOf (now (remainders .entry)))) deviance t c p d ⌝ }
+    ensures { λ r. ⌜ r ≡ spec.withTerm (lnBy (at (now (quotients .entry))) (at (now (remainders .entry)))) deviance t c p d ⌝ }
 {
     if 0.0 < c {
         if p == 0.0 {
@@ -145,15 +145,15 @@ fn with_term<'a>(
 
 // One outcome more, where all before it passed.
 fn term_onward<'a>(
-    quotients: &'a [u64; 257],
-    remainders: &'a [u64; 257],
+    quotients: &'a [f64; 257],
+    remainders: &'a [f64; 257],
     deviance: bool,
     t: f64,
     c: f64,
     p: f64,
     l: Likelihood,
 ) -> Likelihood
-    ensures { λ r. ⌜ r ≡ spec.onward (spec.withTerm (lnBy (entriesOf (now (quotients .entry))) (entriesOf (now (remainders .entry)))) deviance t c p) l ⌝ }
+    ensures { λ r. ⌜ r ≡ spec.onward (spec.withTerm (lnBy (at (now (quotients .entry))) (at (now (remainders .entry)))) deviance t c p) l ⌝ }
 {
     match l {
         Likelihood::Fit(d) => with_term(quotients, remainders, deviance, t, c, p, d),
@@ -163,8 +163,8 @@ fn term_onward<'a>(
 }
 
 fn with_terms<'a>(
-    quotients: &'a [u64; 257],
-    remainders: &'a [u64; 257],
+    quotients: &'a [f64; 257],
+    remainders: &'a [f64; 257],
     deviance: bool,
     t: f64,
     counts: &[u64],
@@ -172,7 +172,7 @@ fn with_terms<'a>(
     d: Diagnostics,
 ) -> Likelihood
     requires { ⌜ length (now counts) ≤ length (now ps) ⌝ }
-    ensures { λ r. ⌜ r ≡ spec.withTerms (lnBy (entriesOf (now (quotients .entry))) (entriesOf (now (remainders .entry)))) deviance t (now (counts .entry)) (now (ps .entry)) d ⌝ }
+    ensures { λ r. ⌜ r ≡ spec.withTerms (lnBy (at (now (quotients .entry))) (at (now (remainders .entry)))) deviance t (now (counts .entry)) (now (ps .entry)) d ⌝ }
 {
     let n = counts.len();
     let mut l = Likelihood::Fit(d);
@@ -185,8 +185,8 @@ fn with_terms<'a>(
 
 // Adds one record's terms to d, by tables of logarithms that are lent.
 pub fn with_record<'a>(
-    quotients: &'a [u64; 257],
-    remainders: &'a [u64; 257],
+    quotients: &'a [f64; 257],
+    remainders: &'a [f64; 257],
     deviance: bool,
     tolerance: f64,
     counts: &[u64],
@@ -194,7 +194,7 @@ pub fn with_record<'a>(
     d: Diagnostics,
 ) -> Likelihood
     requires { ⌜ length (now counts) ≤ length (now ps) ⌝ }
-    ensures { λ r. ⌜ r ≡ spec.withRecord (lnBy (entriesOf (now (quotients .entry))) (entriesOf (now (remainders .entry)))) deviance tolerance (now (counts .entry)) (now (ps .entry)) d ⌝ }
+    ensures { λ r. ⌜ r ≡ spec.withRecord (lnBy (at (now (quotients .entry))) (at (now (remainders .entry)))) deviance tolerance (now (counts .entry)) (now (ps .entry)) d ⌝ }
 {
     if fails(tolerance, ps) {
         return Likelihood::Failed;

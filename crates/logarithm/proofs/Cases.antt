@@ -9,7 +9,7 @@ use Rattle.rounding.proofs.Units.{finite-above}
 use Rattle.significand.specs.Significand.{significandOf, exponentOf}
 use Rattle.logarithm.specs.Steps.{lnOf, lnBy}
 
-module _ (q r : ℕ → ℕ) where
+module _ (q r : ℕ → Float) where
   pub of-infinity : (x : Float) → eq x (inf false) ≡ true → x ≡ lnBy q r x
   unfolding lnBy eq lt finite ofBits
   of-infinity nan h = clash h

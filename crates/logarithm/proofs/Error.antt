@@ -18,7 +18,7 @@ use Rattle.rounding.proofs.Operations.{mul-at, div-at}
 use Rattle.rounding.proofs.Sums.{add-near, loosen, shift}
 use Rattle.rounding.proofs.Exact.{whole-value, is-whole, is-shift, is-sum, is-difference, is-product, is-quotient}
 use Rattle.logarithm.specs.Series.{ln1p, lnEntry, entryOf}
-use Rattle.logarithm.specs.Steps.{poly, part, lnOf, quotientOf, remainderOf}
+use Rattle.logarithm.specs.Steps.{poly, part, lnOf, quotientOf, remainderOf, quotientF, remainderF}
 use Rattle.logarithm.proofs.Terms.{ln1p-le}
 use Rattle.logarithm.proofs.Table.{entry-near, last-quotient, last-remainder, quotient-lt, remainder-lt}
 use Rattle.logarithm.proofs.Poly.{poly-near}
@@ -43,7 +43,7 @@ t-near l c L low high =
 
 -- ---- hi and lo are exact
 module _ (n two entry : ℕ) (N : n ≤ 2097) (small : two ≤ 6096987078286) (less : entry ≤ 6096987078286) where
-  part-near : (k j : ℕ) → j + k ≡ 1074 → HasValue (whole (2 ^ k)) false (2 ^ k) 1 → Near 0 (part (whole n -ᶠ whole 1074) two entry k) ((n * two + entry) * 2 ^ j) (1074 * two * 2 ^ j)
+  part-near : (k j : ℕ) → j + k ≡ 1074 → HasValue (whole (2 ^ k)) false (2 ^ k) 1 → Near 0 (part (whole n -ᶠ whole 1074) (whole two) (whole entry) k) ((n * two + entry) * 2 ^ j) (1074 * two * 2 ^ j)
   unfolding part
   part-near k j jk kv =
       let a : n * two ≤ 2097 * two = mul-le-mul-right two N in
@@ -99,10 +99,10 @@ module _ (m n k b : ℕ) (low : 2 ^ 52 ≤ m) (high : m < 2 ^ 53) (N : n ≤ 209
   abbrev e : Float
   e = whole n -ᶠ whole 1074
 
-  hi-near : Near 0 (part e Q (quotientOf j) 43) ((n * Q + quotientOf j) * 2 ^ 1031) (1074 * Q * 2 ^ 1031)
+  hi-near : Near 0 (part e (quotientF 256) (quotientF j) 43) ((n * Q + quotientOf j) * 2 ^ 1031) (1074 * Q * 2 ^ 1031)
   hi-near = part-near n Q (quotientOf j) N (le-of-eq last-quotient) (omega (arith, quotient-lt j j-lt)) 43 1031 refl (whole-value (2 ^ 43) (lit≤ tt))
 
-  lo-near : Near 0 (part e R (remainderOf j) 70) ((n * R + remainderOf j) * 2 ^ 1004) (1074 * R * 2 ^ 1004)
+  lo-near : Near 0 (part e (remainderF 256) (remainderF j) 70) ((n * R + remainderOf j) * 2 ^ 1004) (1074 * R * 2 ^ 1004)
   unfolding ofInt
   lo-near = part-near n R (remainderOf j) N (le-trans (le-of-eq last-remainder) (lit≤ tt)) (omega (arith, remainder-lt j)) 70 1004 refl (refl, refl)
 
@@ -115,7 +115,7 @@ module _ (m n k b : ℕ) (low : 2 ^ 52 ≤ m) (high : m < 2 ^ 53) (N : n ≤ 209
   lo-minus : 1074 * R * 2 ^ 1004 ≤ 2 ^ 1043
   lo-minus = subst (λ (z : ℕ). 1074 * z * 2 ^ 1004 ≤ 2 ^ 1043) (sym last-remainder) (lit≤ tt)
 
-  steps-near : (r : ℕ) → Near (0 + (0 + 2 ^ 1023 + 2 ^ 1021) + 2 ^ k) (lnOf quotientOf remainderOf m n)
+  steps-near : (r : ℕ) → Near (0 + (0 + 2 ^ 1023 + 2 ^ 1021) + 2 ^ k) (lnOf quotientF remainderF m n)
       ((n * Q + quotientOf j) * 2 ^ 1031 + ((n * R + remainderOf j) * 2 ^ 1004 + ln1p (suc (suc (suc (suc (suc (suc r)))))) l (c * 2 ^ 44)))
       (1074 * Q * 2 ^ 1031 + (1074 * R * 2 ^ 1004 + 0))
   unfolding lnOf
@@ -127,12 +127,12 @@ module _ (m n k b : ℕ) (low : 2 ^ 52 ≤ m) (high : m < 2 ^ 53) (N : n ≤ 209
       let t = t-near l c (omega arith) (omega arith) (omega arith) in
       let p = poly-near (tOf l c) (t .count) l d D s (t .value) (t .close) r in
       let ss = ln1p-le (suc (suc (suc (suc (suc (suc r)))))) l d D s in
-      let y = add-near (part e R (remainderOf j) 70) (poly (tOf l c)) 0 (2 ^ 1023) ((n * R + remainderOf j) * 2 ^ 1004) (1074 * R * 2 ^ 1004) S 0 1021 lo-near p (lit≤ tt)
+      let y = add-near (part e (remainderF 256) (remainderF j) 70) (poly (tOf l c)) 0 (2 ^ 1023) ((n * R + remainderOf j) * 2 ^ 1004) (1074 * R * 2 ^ 1004) S 0 1021 lo-near p (lit≤ tt)
       (sum-a ((n * R + remainderOf j) * 2 ^ 1004) (1074 * R * 2 ^ 1004) S (2 ^ 1023) (2 ^ 1043) (2 ^ 1066) (2 ^ 1074) lo-plus ss (lit< tt))
       (sum-b ((n * R + remainderOf j) * 2 ^ 1004) (1074 * R * 2 ^ 1004) S (2 ^ 1023) (2 ^ 1043) (2 ^ 1074) lo-minus (lit< tt)) in
       let big : (n * Q + quotientOf j + 137438953472) * 2 ^ 1031 < (1074 * Q + b) * 2 ^ 1031 = mul-lt-mul-of-pos-right (subst (λ (z : ℕ). n * z + quotientOf j + 137438953472 < 1074 * z + b) (sym last-quotient) over) (pow-pos 1031) in
       let big' : (1074 * Q + 137438953472) * 2 ^ 1031 < (n * Q + quotientOf j + b) * 2 ^ 1031 = mul-lt-mul-of-pos-right (subst (λ (z : ℕ). 1074 * z + 137438953472 < n * z + quotientOf j + b) (sym last-quotient) under) (pow-pos 1031) in
-      add-near (part e Q (quotientOf j) 43) (part e R (remainderOf j) 70 +ᶠ poly (tOf l c)) 0 (0 + 2 ^ 1023 + 2 ^ 1021) ((n * Q + quotientOf j) * 2 ^ 1031) (1074 * Q * 2 ^ 1031) ((n * R + remainderOf j) * 2 ^ 1004 + S) (1074 * R * 2 ^ 1004 + 0) k hi-near y K
+      add-near (part e (quotientF 256) (quotientF j) 43) (part e (remainderF 256) (remainderF j) 70 +ᶠ poly (tOf l c)) 0 (0 + 2 ^ 1023 + 2 ^ 1021) ((n * Q + quotientOf j) * 2 ^ 1031) (1074 * Q * 2 ^ 1031) ((n * R + remainderOf j) * 2 ^ 1004 + S) (1074 * R * 2 ^ 1004 + 0) k hi-near y K
       (all-a ((n * Q + quotientOf j) * 2 ^ 1031) ((n * R + remainderOf j) * 2 ^ 1004) S (1074 * Q * 2 ^ 1031) (1074 * R * 2 ^ 1004) (2 ^ 1023) (2 ^ 1021) (2 ^ 1043) (2 ^ 1066) (137438953472 * 2 ^ 1031) (b * 2 ^ 1031) (2 ^ (53 + k)) lo-plus ss (lit≤ tt) B
       (lt-of-le-of-lt (le-of-eq (sym (add-mul (n * Q + quotientOf j) 137438953472 (2 ^ 1031)))) (lt-of-lt-of-le big (le-of-eq (add-mul (1074 * Q) b (2 ^ 1031))))))
       (all-b ((n * Q + quotientOf j) * 2 ^ 1031) ((n * R + remainderOf j) * 2 ^ 1004) S (1074 * Q * 2 ^ 1031) (1074 * R * 2 ^ 1004) (2 ^ 1023) (2 ^ 1021) (2 ^ 1043) (2 ^ 1066) (137438953472 * 2 ^ 1031) (b * 2 ^ 1031) (2 ^ (53 + k)) lo-minus (lit≤ tt) B
@@ -151,11 +151,11 @@ module _ (m n k b : ℕ) (low : 2 ^ 52 ≤ m) (high : m < 2 ^ 53) (N : n ≤ 209
       all-b P p s N n d f x y z B C a c e h = omega arith
 
   -- ---- the series' numbers in place of the table's
-  pub series-near : (r : ℕ) → Near (2 ^ k + 2 ^ 1024) (lnOf quotientOf remainderOf m n) (n * lnEntry (12 + r) 256 + lnEntry (12 + r) j + ln1p (12 + r) l (c * 2 ^ 44)) (1074 * lnEntry (12 + r) 256)
+  pub series-near : (r : ℕ) → Near (2 ^ k + 2 ^ 1024) (lnOf quotientF remainderF m n) (n * lnEntry (12 + r) 256 + lnEntry (12 + r) j + ln1p (12 + r) l (c * 2 ^ 44)) (1074 * lnEntry (12 + r) 256)
   series-near r =
       let S = ln1p (12 + r) l (c * 2 ^ 44) in
       let t : suc (suc (suc (suc (suc (suc (6 + r)))))) ≡ 12 + r = omega arith in
-      let base = subst (λ (z : ℕ). Near (0 + (0 + 2 ^ 1023 + 2 ^ 1021) + 2 ^ k) (lnOf quotientOf remainderOf m n) ((n * Q + quotientOf j) * 2 ^ 1031 + ((n * R + remainderOf j) * 2 ^ 1004 + ln1p z l (c * 2 ^ 44))) (1074 * Q * 2 ^ 1031 + (1074 * R * 2 ^ 1004 + 0))) t (steps-near (6 + r)) in
+      let base = subst (λ (z : ℕ). Near (0 + (0 + 2 ^ 1023 + 2 ^ 1021) + 2 ^ k) (lnOf quotientF remainderF m n) ((n * Q + quotientOf j) * 2 ^ 1031 + ((n * R + remainderOf j) * 2 ^ 1004 + ln1p z l (c * 2 ^ 44))) (1074 * Q * 2 ^ 1031 + (1074 * R * 2 ^ 1004 + 0))) t (steps-near (6 + r)) in
       let w : ℕ = 2 ^ 980 + 2 ^ 1003 in
       let two = entry-near r 256 (lit< tt) in
       let first = div-add-mod' (entryOf 256) (2 ^ 27) in

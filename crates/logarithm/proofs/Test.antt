@@ -1,5 +1,5 @@
 -- The rule of the tables: one test, which antt computes over both, with the sum of the neighbours' differences carried along, says it of each entry. Assumes nothing.
-use mathlib.Core.Path.{_≡_, refl, sym, ap, _∙_, subst}
+use mathlib.Core.Path.{_≡_, refl, sym, ap, ap₂, _∙_, subst}
 use mathlib.Core.Bool.{Bool, true, false, _&&_}
 use mathlib.Core.List.{List, [], _∷_}
 use Prim.Native.Nat.{ℕ, zero, suc, _+_, _-_, _*_, _/_, _%_, _^_, _≤_, _<_}
@@ -9,9 +9,11 @@ use lib.Dec.{T, leb, ltb, leb→le, ltb→lt, lit≤, lit<}
 use lib.ListN.{length, getD}
 use lib.Seq.{ext-getD}
 use lib.Arith.{digits-div, digits-mod}
+use lib.Ieee.{Float, nan, inf, fin, up, down}
 use lib.Ieee.Fits.{and-l, and-r}
-use Rattle.lists.specs.Build.{build}
+use Rattle.lists.specs.Build.{build, from as range}
 use Rattle.lists.proofs.Filling.{length-build, getD-build}
+use Rattle.rounding.specs.Units.{whole}
 use Rattle.rounding.specs.Near.{Within}
 use Rattle.logarithm.specs.Series.{ln1p, lnRatio, lnEntry, entryOf}
 use Rattle.logarithm.specs.Steps.{quotientOf, remainderOf}
@@ -73,9 +75,15 @@ nearest j w h t = record { near = λ k l. subst (λ (z : ℕ). Within (2 ^ 1003 
     at : (r : ℕ) → Within (2 ^ 1003 - 2 ^ 993) (lnEntry (12 + r) j) (w * 2 ^ 1004)
     at r = done (lnEntry 12 j) (lnEntry (12 + r) j) (w * 2 ^ 1004) (j * 2 ^ 970) (2 ^ 1003) (2 ^ 994) (2 ^ 980) (2 ^ 1003 - 2 ^ 993) t (ratio-more 12 r 256 j (2 ^ 970) (lit≤ tt) (lit≤ tt)) (le-trans (mul-le-mul-right (2 ^ 970) (le-of-suc-le-suc h)) (lit≤ tt)) (lit≤ tt)
 
-pub tabled : (qs rs : List ℕ) → T (every 0 0 qs rs) → length qs ≡ 257 → length rs ≡ 257 → Tabled qs rs
+-- the whole numbers of two tables that pass
+record Digits (qs rs : List ℕ) : Type 0 where
+  quotients : qs ≡ build 257 quotientOf
+  remainders : rs ≡ build 257 remainderOf
+  nearest : (j : ℕ) → j < 257 → NearestEntry j (getD qs j 0 * 2 ^ 27 + getD rs j 0)
+
+digits : (qs rs : List ℕ) → T (every 0 0 qs rs) → length qs ≡ 257 → length rs ≡ 257 → Digits qs rs
 unfolding entryOf lnRatio
-tabled qs rs t a b = record {
+digits qs rs t a b = record {
   quotients = ext-getD 0 qs (build 257 quotientOf) (a ∙ sym (length-build 257 quotientOf)) (λ j h. let l : j < 257 = omega arith in sym (getD-build 0 257 j quotientOf l ∙ ap (λ (w : ℕ). w / 2 ^ 27) (is j l) ∙ digits-div (getD qs j 0) (at j l .0)));
   remainders = ext-getD 0 rs (build 257 remainderOf) (b ∙ sym (length-build 257 remainderOf)) (λ j h. let l : j < 257 = omega arith in sym (getD-build 0 257 j remainderOf l ∙ ap (λ (w : ℕ). w % 2 ^ 27) (is j l) ∙ digits-mod (getD qs j 0) (at j l .0)));
   nearest = λ j l. nearest j (getD qs j 0 * 2 ^ 27 + getD rs j 0) l (at j l .1);
@@ -86,3 +94,42 @@ tabled qs rs t a b = record {
 
     is : (j : ℕ) → j < 257 → entryOf j ≡ getD qs j 0 * 2 ^ 27 + getD rs j 0
     is j h = rounded (getD qs j 0 * 2 ^ 27 + getD rs j 0) (lnEntry 12 j) (at j h .1)
+
+-- a number that is whole, as such
+abbrev pub wholeOf : Float → ℕ
+wholeOf nan = 0
+wholeOf (inf s) = 0
+wholeOf (fin s m e) = m * up e / down e
+
+abbrev pub wholes : List Float → List ℕ
+wholes [] = []
+wholes (x ∷ xs) = wholeOf x ∷ wholes xs
+
+-- and back
+abbrev pub floats : List ℕ → List Float
+floats [] = []
+floats (n ∷ ns) = whole n ∷ floats ns
+
+length-wholes : (l : List Float) → length (wholes l) ≡ length l
+length-wholes [] = refl
+length-wholes (x ∷ xs) = ap suc (length-wholes xs)
+
+floats-from : (i k : ℕ) (f : ℕ → ℕ) → floats (range i k f) ≡ range i k (λ j. whole (f j))
+unfolding range
+floats-from i zero f = refl
+floats-from i (suc k) f = ap (λ (l : List Float). whole (f i) ∷ l) (floats-from (suc i) k f)
+
+floats-build : (l : List ℕ) (f : ℕ → ℕ) → l ≡ build 257 f → floats l ≡ build 257 (λ j. whole (f j))
+unfolding build
+floats-build l f e = ap floats e ∙ floats-from 0 257 f
+
+pub tabled : (q r : List Float) → T (every 0 0 (wholes q) (wholes r)) → length q ≡ 257 → length r ≡ 257 → q ≡ floats (wholes q) → r ≡ floats (wholes r) → Tabled q r
+tabled q r t a b e f =
+    let d = digits (wholes q) (wholes r) t (length-wholes q ∙ a) (length-wholes r ∙ b) in
+    let quotient : (j : ℕ) → j < 257 → getD (wholes q) j 0 ≡ quotientOf j = λ j h. ap (λ (l : List ℕ). getD l j 0) (d .quotients) ∙ getD-build 0 257 j quotientOf h in
+    let remainder : (j : ℕ) → j < 257 → getD (wholes r) j 0 ≡ remainderOf j = λ j h. ap (λ (l : List ℕ). getD l j 0) (d .remainders) ∙ getD-build 0 257 j remainderOf h in
+    record {
+      quotients = e ∙ floats-build (wholes q) quotientOf (d .quotients);
+      remainders = f ∙ floats-build (wholes r) remainderOf (d .remainders);
+      nearest = λ j h. subst (NearestEntry j) (ap₂ (λ (x y : ℕ). x * 2 ^ 27 + y) (quotient j h) (remainder j h)) (d .nearest j h);
+    }

@@ -22,7 +22,7 @@ use Rattle.rounding.proofs.Sums.{loosen}
 use Rattle.significand.specs.Significand.{significandOf, exponentOf}
 use Rattle.significand.proofs.Exact.{Exact, exact}
 use Rattle.logarithm.specs.Series.{ln1p, lnEntry, lnPlus, lnMinus}
-use Rattle.logarithm.specs.Steps.{lnOf, ln, quotientOf, remainderOf}
+use Rattle.logarithm.specs.Steps.{lnOf, ln, quotientOf, quotientF, remainderF}
 use Rattle.logarithm.specs.Error.{LnNear, LnError}
 use Rattle.logarithm.proofs.Cases.{of-finite}
 use Rattle.logarithm.proofs.Table.{quotient-lt, first-quotient}
@@ -30,11 +30,11 @@ use Rattle.logarithm.proofs.Error.{series-near}
 
 -- what is near the series in steps, for a finite x above zero
 near-of : (d : ℕ) (x : Float) → lt nought x ≡ true → finite x ≡ true
-    → ((r : ℕ) → Near d (lnOf quotientOf remainderOf (significandOf x) (exponentOf x))
+    → ((r : ℕ) → Near d (lnOf quotientF remainderF (significandOf x) (exponentOf x))
     (exponentOf x * lnEntry (12 + r) 256 + lnEntry (12 + r) (significandOf x / 2 ^ 44 - 256) + ln1p (12 + r) (significandOf x % 2 ^ 44) (significandOf x / 2 ^ 44 * 2 ^ 44)) (1074 * lnEntry (12 + r) 256))
     → LnNear d x (ln x)
 unfolding ln lnPlus lnMinus
-near-of d x l h n = record { near = λ k g. subst (λ (z : ℕ). Near d (ln x) (lnPlus z x) (lnMinus z)) (add-sub-of-le g) (rw (of-finite quotientOf remainderOf x l h) (n (k - 12))) }
+near-of d x l h n = record { near = λ k g. subst (λ (z : ℕ). Near d (ln x) (lnPlus z x) (lnMinus z)) (add-sub-of-le g) (rw (of-finite quotientF remainderF x l h) (n (k - 12))) }
 
 module _ (x : Float) (p : Exact x) where
   abbrev m : ℕ
@@ -53,7 +53,7 @@ module _ (x : Float) (p : Exact x) where
       place m h = omega arith
 
   abbrev at : ℕ → ℕ → Type 0
-  at d r = Near d (lnOf quotientOf remainderOf m n) (n * lnEntry (12 + r) 256 + lnEntry (12 + r) (m / 2 ^ 44 - 256) + ln1p (12 + r) (m % 2 ^ 44) (m / 2 ^ 44 * 2 ^ 44)) (1074 * lnEntry (12 + r) 256)
+  at d r = Near d (lnOf quotientF remainderF m n) (n * lnEntry (12 + r) 256 + lnEntry (12 + r) (m / 2 ^ 44 - 256) + ln1p (12 + r) (m % 2 ^ 44) (m / 2 ^ 44 * 2 ^ 44)) (1074 * lnEntry (12 + r) 256)
 
   everywhere : (d : ℕ) → 2 ^ 1031 + 2 ^ 1024 ≤ d → (r : ℕ) → at d r
   everywhere d g r = loosen g (series-near m n 1031 9007199254740992 (p .low) (p .high) (p .reach) (lit≤ tt) refl (over n q (p .reach) q-lt) (under n q) r)

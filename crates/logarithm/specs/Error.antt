@@ -3,23 +3,22 @@ use mathlib.Core.Path.{_≡_}
 use mathlib.Core.Bool.{true}
 use mathlib.Core.List.{List}
 use Prim.Native.Nat.{ℕ, _+_, _-_, _*_, _^_, _≤_, _<_}
-use lib.ListN.{getD}
 use lib.Ieee.{Float, lt, le}
 use Rattle.lists.specs.Build.{build}
 use Rattle.numbers.specs.Number.{finite, zeroF, halfF, twoF}
 use Rattle.rounding.specs.Near.{Within, Near}
 use Rattle.logarithm.specs.Series.{lnEntry, lnPlus, lnMinus}
-use Rattle.logarithm.specs.Steps.{quotientOf, remainderOf}
+use Rattle.logarithm.specs.Steps.{quotientOf, remainderOf, quotientF, remainderF}
 
 -- w is the whole number nearest 2 ^ 70 * ln (1 + j / 256): within less than a half, which is 2 ^ 1003 units
 pub record NearestEntry (j w : ℕ) : Type 0 where
   pub near : (k : ℕ) → 12 ≤ k → Within (2 ^ 1003 - 2 ^ 993) (lnEntry k j) (w * 2 ^ 1004)
 
 -- the two tables
-pub record Tabled (q r : List ℕ) : Type 0 where
-  pub quotients : q ≡ build 257 quotientOf
-  pub remainders : r ≡ build 257 remainderOf
-  pub nearest : (j : ℕ) → j < 257 → NearestEntry j (getD q j 0 * 2 ^ 27 + getD r j 0)
+pub record Tabled (q r : List Float) : Type 0 where
+  pub quotients : q ≡ build 257 quotientF
+  pub remainders : r ≡ build 257 remainderF
+  pub nearest : (j : ℕ) → j < 257 → NearestEntry j (quotientOf j * 2 ^ 27 + remainderOf j)
 
 -- r is within d units of the logarithm of x
 pub record LnNear (d : ℕ) (x r : Float) : Type 0 where

@@ -1,8 +1,6 @@
 -- ln in the steps of document 01, each operation rounded.
 use Prim.Native.Nat.{ℕ, _-_, _/_, _%_, _^_}
 use mathlib.Core.Bool.{cond}
-use mathlib.Core.List.{List}
-use lib.ListN.{getD}
 use lib.Ieee.{Float, nan, lt}
 use Rattle.numbers.specs.Number.{_+ᶠ_, _-ᶠ_, _*ᶠ_, _/ᶠ_, finite, zeroF}
 use Rattle.rounding.specs.Units.{whole}
@@ -18,11 +16,11 @@ unfoldable pub poly : Float → Float
 poly t = t -ᶠ t *ᶠ t *ᶠ (inverse 2 -ᶠ t *ᶠ (inverse 3 -ᶠ t *ᶠ (inverse 4 -ᶠ t *ᶠ (inverse 5 -ᶠ t /ᶠ whole 6))))
 
 -- e·(entry 256) plus (entry j), over 2 ^ k: hi and lo
-unfoldable pub part : Float → ℕ → ℕ → ℕ → Float
-part e two entry k = (e *ᶠ whole two +ᶠ whole entry) /ᶠ whole (2 ^ k)
+unfoldable pub part : Float → Float → Float → ℕ → Float
+part e two entry k = (e *ᶠ two +ᶠ entry) /ᶠ whole (2 ^ k)
 
 -- ln of M·2 ^ (e - 52), from quotient and remainder by 2 ^ 27 of each entry of the table; n is e + 1074
-unfoldable pub lnOf : (ℕ → ℕ) → (ℕ → ℕ) → ℕ → ℕ → Float
+unfoldable pub lnOf : (ℕ → Float) → (ℕ → Float) → ℕ → ℕ → Float
 lnOf quotient remainder m n =
     let c = m / 2 ^ 44 in
     let e = whole n -ᶠ whole 1074 in
@@ -32,7 +30,7 @@ lnOf quotient remainder m n =
     hi +ᶠ (lo +ᶠ poly t)
 
 -- ln(+infinity) is itself; of a NaN, of a zero and of what is less it is a NaN
-unfoldable pub lnBy : (ℕ → ℕ) → (ℕ → ℕ) → Float → Float
+unfoldable pub lnBy : (ℕ → Float) → (ℕ → Float) → Float → Float
 lnBy quotient remainder x = cond (lt zeroF x) (cond (finite x) (lnOf quotient remainder (significandOf x) (exponentOf x)) x) nan
 
 -- W[j] as quotient and remainder
@@ -42,10 +40,13 @@ quotientOf j = entryOf j / 2 ^ 27
 abbrev pub remainderOf : ℕ → ℕ
 remainderOf j = entryOf j % 2 ^ 27
 
+-- both as numbers
+abbrev pub quotientF : ℕ → Float
+quotientF j = whole (quotientOf j)
+
+abbrev pub remainderF : ℕ → Float
+remainderF j = whole (remainderOf j)
+
 -- the natural logarithm
 unfoldable pub ln : Float → Float
-ln x = lnBy quotientOf remainderOf x
-
--- the entries of a table
-abbrev pub entriesOf : List ℕ → ℕ → ℕ
-entriesOf l j = getD l j 0
+ln x = lnBy quotientF remainderF x

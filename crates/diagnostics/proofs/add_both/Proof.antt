@@ -1,7 +1,8 @@
 -- `diagnostics::add_both` meets its contract. Assumes nothing.
 use mathlib.Core.Bool.{false}
 use denote.Ref.{now}
-use Rattle.logarithm.specs.Steps.{lnBy, entriesOf}
+use Rattle.numbers.specs.Slice.{at}
+use Rattle.logarithm.specs.Steps.{lnBy}
 use mathlib.Core.Path.{refl, sym, _∙_}
 use lib.Seq.{length-take-le}
 use Rattle.lists.proofs.Parts.{front-again}
@@ -68,7 +69,7 @@ returns c =
     let check-sequence = c .before .before .before .before .before .check-sequence .ensures in
     let found = c .before .before .before .found .given in
     let a = c .before .before .before .before .before .before .before .before .before .before .before .before .before .before .before .before .before .before .before .before .before .args in
-    let log = lnBy (entriesOf (now (a .quotients))) (entriesOf (now (a .remainders))) in
+    let log = lnBy (at (now (a .quotients))) (at (now (a .remainders))) in
     let q = front-again _ _ (c .before .before .before .before .before .before .before .before .before .load-sequence .ensures) (sym (c .before .before .before .before .before .before .before .before .before .before .before .sequence-length .ensures)) in
     (absent log false (a .tolerance) (now (a .card)) (a .h) (now (a .model)) (a .r) _ _ q check-sequence _ (found .1) (a .b .first) _ (c .before .refuse-onward .ensures), absent log false (a .tolerance) (now (a .card)) (a .h) (now (a .other)) (a .r) _ _ q check-sequence _ (found .1) (a .b .second) _ (c .refuse-onward2 .ensures))
 
@@ -90,7 +91,7 @@ returns-2 c =
     let enum-told-2 = c .before .before .before .before .before .before .before .before .before .before .before .enum-told .given in
     let weigh-both = c .before .before .before .before .before .before .weigh-both .ensures in
     let a = c .before .before .before .before .before .before .before .before .before .before .before .before .before .before .before .before .before .before .before .before .before .before .before .before .before .before .before .before .before .args in
-    let log = lnBy (entriesOf (now (a .quotients))) (entriesOf (now (a .remainders))) in
+    let log = lnBy (at (now (a .quotients))) (at (now (a .remainders))) in
     let q = front-again _ _ (c .before .before .before .before .before .before .before .before .before .before .before .before .before .before .before .before .before .load-sequence .ensures) (sym (c .before .before .before .before .before .before .before .before .before .before .before .before .before .before .before .before .before .before .before .sequence-length .ensures)) in
     (present log false (a .tolerance) (now (a .card)) (a .h) (now (a .model)) (a .r) _ _ q check-sequence (enum-told-2 .1) (a .b .first) _ (weigh-both .0), present log false (a .tolerance) (now (a .card)) (a .h) (now (a .other)) (a .r) _ _ q check-sequence (enum-told-2 .1) (a .b .second) _ (weigh-both .1))
 

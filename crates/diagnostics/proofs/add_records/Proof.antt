@@ -4,7 +4,8 @@ use mathlib.Core.Path.{_≡_, refl, _∙_}
 use lib.ListN.{length}
 use Rattle.lists.specs.Fold.{fold}
 use Rattle.lists.proofs.Folding.{fold-none, fold-more, fold-end}
-use Rattle.logarithm.specs.Steps.{lnBy, entriesOf}
+use Rattle.numbers.specs.Slice.{at}
+use Rattle.logarithm.specs.Steps.{lnBy}
 use Rattle.likelihood.specs.declared.Likelihood.the-variants.{Fit}
 use Rattle.likelihood.specs.Multinomial.{onward}
 use Rattle.diagnostics.specs.Diagnostics.{noDiagnostics, recordOnward, likelihoodBy}
@@ -15,7 +16,7 @@ use Rattle.diagnostics.proofs.add_records.Statement.{statement}
 use Rattle.diagnostics.proofs.add_records.Tie as tie
 
 abbrev Inv-loop : tie.InvT-loop
-Inv-loop quotients remainders deviance tolerance card h model columns sequence₀ counts₀ ps₀ count l₀ r₀ sequence counts ps l r = (r ≤ count) × (length sequence ≡ length sequence₀) × (length counts ≡ length counts₀) × (length ps ≡ length ps₀) × (l ≡ fold r (λ r. onward (recordOnward (lnBy (entriesOf quotients) (entriesOf remainders)) deviance tolerance card h model r)) (Fit noDiagnostics))
+Inv-loop quotients remainders deviance tolerance card h model columns sequence₀ counts₀ ps₀ count l₀ r₀ sequence counts ps l r = (r ≤ count) × (length sequence ≡ length sequence₀) × (length counts ≡ length counts₀) × (length ps ≡ length ps₀) × (l ≡ fold r (λ r. onward (recordOnward (lnBy (at quotients) (at remainders)) deviance tolerance card h model r)) (Fit noDiagnostics))
 
 abbrev μ-loop : tie.MeasureT-loop
 μ-loop quotients remainders deviance tolerance card h model columns sequence₀ counts₀ ps₀ count l₀ r₀ sequence counts ps l r = count - r

@@ -5,7 +5,8 @@ use mathlib.Core.Bool.{false}
 use lib.ListN.{length}
 use Rattle.lists.specs.Fold.{fold}
 use Rattle.lists.proofs.Folding.{fold-none, fold-more, fold-end}
-use Rattle.logarithm.specs.Steps.{lnBy, entriesOf}
+use Rattle.numbers.specs.Slice.{at}
+use Rattle.logarithm.specs.Steps.{lnBy}
 use Rattle.likelihood.specs.declared.Likelihood.the-variants.{Fit}
 use Rattle.likelihood.specs.Multinomial.{onward}
 use Rattle.diagnostics.specs.Diagnostics.{noDiagnostics, recordOnward, likelihoodBy}
@@ -16,7 +17,7 @@ use Rattle.diagnostics.proofs.add_records_both.Statement.{statement}
 use Rattle.diagnostics.proofs.add_records_both.Tie as tie
 
 abbrev Inv-loop : tie.InvT-loop
-Inv-loop quotients remainders tolerance card h model columns other others sequence₀ counts₀ ps₀ qs₀ records b₀ r₀ sequence counts ps qs b r = (r ≤ records) × (length sequence ≡ length sequence₀) × (length counts ≡ length counts₀) × (length ps ≡ length ps₀) × (length qs ≡ length qs₀) × (b .first ≡ fold r (λ r. onward (recordOnward (lnBy (entriesOf quotients) (entriesOf remainders)) false tolerance card h model r)) (Fit noDiagnostics)) × (b .second ≡ fold r (λ r. onward (recordOnward (lnBy (entriesOf quotients) (entriesOf remainders)) false tolerance card h other r)) (Fit noDiagnostics))
+Inv-loop quotients remainders tolerance card h model columns other others sequence₀ counts₀ ps₀ qs₀ records b₀ r₀ sequence counts ps qs b r = (r ≤ records) × (length sequence ≡ length sequence₀) × (length counts ≡ length counts₀) × (length ps ≡ length ps₀) × (length qs ≡ length qs₀) × (b .first ≡ fold r (λ r. onward (recordOnward (lnBy (at quotients) (at remainders)) false tolerance card h model r)) (Fit noDiagnostics)) × (b .second ≡ fold r (λ r. onward (recordOnward (lnBy (at quotients) (at remainders)) false tolerance card h other r)) (Fit noDiagnostics))
 
 abbrev μ-loop : tie.MeasureT-loop
 μ-loop quotients remainders tolerance card h model columns other others sequence₀ counts₀ ps₀ qs₀ records b₀ r₀ sequence counts ps qs b r = records - r

@@ -1,7 +1,8 @@
 -- `diagnostics::weigh_both` meets its contract. Assumes nothing.
 use mathlib.Core.Bool.{false}
 use denote.Ref.{now}
-use Rattle.logarithm.specs.Steps.{lnBy, entriesOf}
+use Rattle.numbers.specs.Slice.{at}
+use Rattle.logarithm.specs.Steps.{lnBy}
 use mathlib.Core.Path.{refl, sym}
 use native.Mathlib.Nat.{le-trans}
 use lib.Seq.{length-take-le}
@@ -74,7 +75,7 @@ returns c =
     let a = o .args in
     let load-counts = c .before .before .before .before .before .before .before .before .before .before .before .before .before .load-counts .ensures in
     let probabilities-both = c .before .before .before .before .before .before .before .before .probabilities-both .ensures in
-    let log = lnBy (entriesOf (now (a .quotients))) (entriesOf (now (a .remainders))) in
+    let log = lnBy (at (now (a .quotients))) (at (now (a .remainders))) in
     (weighed _ _ _ _ _ _ (o .pre .2 .1) (o .pre .4) _ _ _ _ load-counts (probabilities-both .0) log false (a .tolerance) (a .b .first) _ (c .weigh-each .ensures .0), weighed _ _ _ _ _ _ (o .pre .3 .1) (o .pre .4) _ _ _ _ load-counts (probabilities-both .1) log false (a .tolerance) (a .b .second) _ (c .weigh-each .ensures .1))
 
 pub weigh-both-spec : {M : Type 1} → statement M

@@ -7,13 +7,13 @@ use native.Mathlib.Omega.{arith}
 use lib.ListN.{length, length-set}
 use Rattle.lists.proofs.Filling.{Filled, fill-none, fill-more, fill-end}
 use Rattle.numbers.specs.Slice.{at}
-use Rattle.logarithm.specs.Steps.{lnBy, entriesOf}
+use Rattle.logarithm.specs.Steps.{lnBy}
 use borrow.Author.Needs.{needs}
 use Rattle.exports.proofs.logarithms.Statement.{statement}
 use Rattle.exports.proofs.logarithms.Tie as tie
 
 abbrev Inv-loop : tie.InvT-loop
-Inv-loop quotients remainders x n out₀ i₀ out i = (i ≤ n) × (length out ≡ length out₀) × Filled (λ k. lnBy (entriesOf quotients) (entriesOf remainders) (at x k)) out₀ i out
+Inv-loop quotients remainders x n out₀ i₀ out i = (i ≤ n) × (length out ≡ length out₀) × Filled (λ k. lnBy (at quotients) (at remainders) (at x k)) out₀ i out
 
 abbrev μ-loop : tie.MeasureT-loop
 μ-loop quotients remainders x n out₀ i₀ out i = n - i

@@ -7,14 +7,14 @@ use Rattle.lists.specs.Fold.{fold}
 use Rattle.lists.proofs.Folding.{fold-none, fold-more, fold-end}
 use Rattle.numbers.specs.Slice.{at}
 use Rattle.rounding.specs.Units.{whole}
-use Rattle.logarithm.specs.Steps.{lnBy, entriesOf}
+use Rattle.logarithm.specs.Steps.{lnBy}
 use Rattle.likelihood.specs.Multinomial.{onward, withTerm, clamped, withTerms}
 use borrow.Author.Needs.{needs}
 use Rattle.likelihood.proofs.with_terms.Statement.{statement}
 use Rattle.likelihood.proofs.with_terms.Tie as tie
 
 abbrev Inv-loop : tie.InvT-loop
-Inv-loop quotients remainders deviance t counts ps n l₀ k₀ l k = (k ≤ n) × (l ≡ fold k (λ k. onward (withTerm (lnBy (entriesOf quotients) (entriesOf remainders)) deviance t (whole (getD counts k 0)) (clamped (at ps k)))) l₀)
+Inv-loop quotients remainders deviance t counts ps n l₀ k₀ l k = (k ≤ n) × (l ≡ fold k (λ k. onward (withTerm (lnBy (at quotients) (at remainders)) deviance t (whole (getD counts k 0)) (clamped (at ps k)))) l₀)
 
 abbrev μ-loop : tie.MeasureT-loop
 μ-loop quotients remainders deviance t counts ps n l₀ k₀ l k = n - k
