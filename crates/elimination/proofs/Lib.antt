@@ -1,2 +1,4 @@
 pub mod Lent
-pub mod Agreeing
+pub mod Entries
+pub mod Cleared
+pub mod Kept

@@ -1,9 +1,8 @@
 -- The row operations of Gauss-Jordan elimination (Golub and Van Loan, sections 3.2 and 3.4). A matrix of n rows of w numbers lies by rows in a list.
-use Prim.Native.Nat.{ℕ, _+_, _*_, _-_, _≤_, _<_}
-use mathlib.Core.Path.{_≡_}
+use Prim.Native.Nat.{ℕ, _+_, _*_}
 use mathlib.Core.Bool.{cond}
 use mathlib.Core.List.{List}
-use lib.Dec.{eqb, ltb}
+use lib.Dec.{eqb}
 use lib.ListN.{length}
 use lib.Ieee.{Float}
 use Rattle.lists.specs.Build.{build}
@@ -43,20 +42,3 @@ eliminated n w k l = fold n (eliminatedRow (rowOf w k l) w k) l
 -- column k cleared by the pivot in row p: the row is put in row k, divided by the pivot, and taken from the others
 unfoldable pub clearedBy : ℕ → ℕ → ℕ → ℕ → List Float → List Float
 clearedBy n w k p l = eliminated n w k (onRow w k (dividedRow k) (swapped w p k l))
-
--- two matrices of m numbers agree in the columns from c on
-abbrev pub Agree : ℕ → ℕ → ℕ → List Float → List Float → Type 0
-Agree c w m u v = (length u ≡ m) × (length v ≡ m) × ((i j : ℕ) → c ≤ j → j < w → i * w + w ≤ m → at u (i * w + j) ≡ at v (i * w + j))
-
--- as `eliminatedRow`, with the columns before c as they were
-unfoldable pub eliminatedFrom : ℕ → List Float → ℕ → ℕ → ℕ → List Float → List Float
-eliminatedFrom c p w k i l = cond (eqb i k) l (onPart (i * w + c) (w - c) (lessRow (part c (w - c) p) (at l (i * w + k))) l)
-
--- as `dividedRow`, with the entries before c as they were
-unfoldable pub dividedFrom : ℕ → ℕ → List Float → List Float
-dividedFrom c k r = build (length r) (λ j. cond (ltb j c) (at r j) (at r j /ᶠ at r k))
-
--- as `clearedBy`, with nothing divided or taken in the columns before c
-unfoldable pub clearedFrom : ℕ → ℕ → ℕ → ℕ → ℕ → List Float → List Float
-clearedFrom c n w k p l =
-    fold n (eliminatedFrom c (dividedFrom c k (rowOf w p l)) w k) (onRow w k (λ _. dividedFrom c k (rowOf w p l)) (onRow w p (λ _. rowOf w k l) l))

@@ -1,16 +1,14 @@
 // The row operations of Gauss-Jordan elimination. A row is lent as a part of the work slice; a row that another one needs is copied to a local array.
-// They are written once, for every width. The widths of one and two qubits, 8 and 32, are passed on as constants, so that the compiler unrolls their loops.
+// They are written once, for every size. The sizes of one and two qubits, 4 and 16, are passed on as constants, so that the compiler unrolls their loops.
 use matrix::put_row;
 ghost use mathlib.Core.Path.{_≡_};
-ghost use mathlib.Core.Bool.{cond};
 ghost use mathlib.Core.List.{_++_};
-ghost use Prim.Native.Nat.{_+_, _*_, _/_, _≤_, _<_};
-ghost use lib.Dec.{ltb};
+ghost use Prim.Native.Nat.{_+_, _*_, _≤_, _<_};
 ghost use lib.ListN.{length, drop};
 ghost use Rattle.lists.specs.Fold.{fold};
-ghost use Rattle.lists.specs.Part.{part};
-ghost use Rattle.numbers.specs.Number.{_/ᶠ_};
-ghost use Rattle.elimination.specs.Rows.{rowOf, onRow, clearedBy, Agree, dividedFrom, lessRow, eliminatedFrom, clearedFrom};
+ghost use Rattle.lists.specs.Part.{part, onPart};
+ghost use Rattle.elimination.specs.Rows.{onRow, lessRow};
+ghost use Rattle.elimination.specs.Kept.{quotients, keptPart, keptRow, keptCleared};
 
 // Copies w numbers from `start` on to the front of `out`.
 pub fn copy_row(from: &[f64], start: usize, w: usize, out: &mut [f64])
@@ -22,41 +20,31 @@ pub fn copy_row(from: &[f64], start: usize, w: usize, out: &mut [f64])
     }
 }
 
-// Copies row k over row p, unless they are one row.
-fn move_row(work: &mut [f64], w: usize, k: usize, p: usize)
-    requires { ⌜ (w ≤ 32) × (k * w + w ≤ length (now work)) × (p * w + w ≤ length (now work)) ⌝ }
-    ensures { λ _. ⌜ now (work .exit) ≡ onRow w p (λ _. rowOf w k (now (work .entry))) (now (work .entry)) ⌝ }
+// Copies m numbers from place `from` on over those from place `to` on.
+fn move_part(work: &mut [f64], from: usize, to: usize, m: usize)
+    requires { ⌜ (m ≤ 18) × (from + m ≤ length (now work)) × (to + m ≤ length (now work)) ⌝ }
+    ensures { λ _. ⌜ now (work .exit) ≡ onPart to m (λ _. part from m (now (work .entry))) (now (work .entry)) ⌝ }
 {
-    if p == k {
+    if to == from {
         return;
     }
-    let mut row = [0.0f64; 32];
-    copy_row(work, k * w, w, &mut row);
-    let start = p * w;
-    let end = start + w;
-    put_row(&mut work[start..end], &row);
+    let mut row = [0.0f64; 18];
+    copy_row(work, from, m, &mut row);
+    let end = to + m;
+    put_row(&mut work[to..end], &row);
 }
 
-// x / d, but x in the columns before c.
-fn divided(x: f64, d: f64, c: usize, j: usize) -> f64
-    ensures { λ r. ⌜ r ≡ cond (ltb j c) x (x /ᶠ d) ⌝ }
+// The pivot's row, divided by its first number; number n is the diagonal's, one more than the row's zero.
+fn divide_row(row: &[f64], n: usize, out: &mut [f64])
+    requires { ⌜ (length (now row) ≡ n + 2) × (length (now out) ≡ n + 2) ⌝ }
+    ensures { λ _. ⌜ now (out .exit) ≡ quotients n (now (row .entry)) ⌝ }
 {
-    if j < c {
-        return x;
-    }
-    x / d
-}
-
-// Writes `out` over with the row, divided by its entry k from column c on.
-fn divide_row(row: &[f64], k: usize, c: usize, out: &mut [f64])
-    requires { ⌜ (k < length (now row)) × (length (now out) ≡ length (now row)) ⌝ }
-    ensures { λ _. ⌜ now (out .exit) ≡ dividedFrom c k (now (row .entry)) ⌝ }
-{
-    let d = row[k];
+    let d = row[0];
     let width = row.len();
     for j in 0..width {
-        out[j] = divided(row[j], d, c, j);
+        out[j] = row[j] / d;
     }
+    out[n] = (row[n] + 1.0) / d;
 }
 
 // Takes f times the pivot row from the row.
@@ -70,79 +58,69 @@ fn subtract_row(row: &mut [f64], pivot: &[f64], f: f64)
     }
 }
 
-// Eliminates column k from row i, in the columns from c on.
-fn eliminate_row(work: &mut [f64], pivot: &[f64], w: usize, k: usize, c: usize, i: usize)
-    requires { ⌜ (c ≤ k) × (k < w) × (length (now pivot) ≡ w) × (i * w + w ≤ length (now work)) ⌝ }
-    ensures { λ _. ⌜ now (work .exit) ≡ eliminatedFrom c (now (pivot .entry)) w k i (now (work .entry)) ⌝ }
+// The numbers of row i that count, after step k.
+fn keep_part(row: &mut [f64], pivot: &[f64], k: usize, i: usize)
+    requires { ⌜ (0 < length (now row)) × (length (now pivot) ≡ length (now row)) ⌝ }
+    ensures { λ _. ⌜ now (row .exit) ≡ keptPart k (now (pivot .entry)) i (now (row .entry)) ⌝ }
 {
     if i == k {
+        put_row(row, pivot);
         return;
     }
-    let first = i * w;
-    let start = first + c;
-    let end = first + w;
-    let f = work[first + k];
-    subtract_row(&mut work[start..end], &pivot[c..w], f);
+    let f = row[0];
+    subtract_row(row, pivot, f);
 }
 
-// Eliminates column k from every row but row k.
-fn eliminate_rows(work: &mut [f64], pivot: &[f64], n: usize, w: usize, k: usize, c: usize)
-    requires { ⌜ (c ≤ k) × (k < w) × (length (now pivot) ≡ w) × (n * w ≤ length (now work)) ⌝ }
-    ensures { λ _. ⌜ now (work .exit) ≡ fold n (eliminatedFrom c (now (pivot .entry)) w k) (now (work .entry)) ⌝ }
+// Row i after step k.
+fn keep_row(row: &mut [f64], pivot: &[f64], n: usize, k: usize, i: usize)
+    requires { ⌜ (n ≤ 16) × (k < n) × (length (now row) ≡ 2 * n + 2) × (length (now pivot) ≡ n + 2) ⌝ }
+    ensures { λ _. ⌜ now (row .exit) ≡ keptRow n k (now (pivot .entry)) i (now (row .entry)) ⌝ }
 {
+    let end = k + n + 2;
+    keep_part(&mut row[k..end], pivot, k, i);
+    row[end] = row[k + n + 1];
+}
+
+// Every row after step k.
+fn keep_rows(work: &mut [f64], pivot: &[f64], n: usize, k: usize)
+    requires { ⌜ (n ≤ 16) × (k < n) × (n * (2 * n + 2) ≤ length (now work)) × (length (now pivot) ≡ n + 2) ⌝ }
+    ensures { λ _. ⌜ now (work .exit) ≡ fold n (λ i. onRow (2 * n + 2) i (keptRow n k (now (pivot .entry)) i)) (now (work .entry)) ⌝ }
+{
+    let w = 2 * n + 2;
     for i in 0..n {
-        eliminate_row(work, pivot, w, k, c, i);
+        let start = i * w;
+        let end = start + w;
+        keep_row(&mut work[start..end], pivot, n, k, i);
     }
 }
 
-// The pivot's row, divided by the pivot, goes to a local array, row k to its place, and the array to row k; it is taken from the other rows, from column c on.
-fn clear_by(work: &mut [f64], n: usize, w: usize, k: usize, p: usize, c: usize)
-    requires { ⌜ (k < n) × (p < n) × (k < w) × (w ≤ 32) × (n * w ≤ length (now work)) × (c ≤ k) ⌝ }
-    ensures { λ _. ⌜ now (work .exit) ≡ clearedFrom c n w k p (now (work .entry)) ⌝ }
+// The pivot's row, divided, goes to a local array, and row k to its place; then each row is lent in turn.
+fn clear_by(work: &mut [f64], n: usize, k: usize, p: usize)
+    requires { ⌜ (n ≤ 16) × (k < n) × (p < n) × (n * (2 * n + 2) ≤ length (now work)) ⌝ }
+    ensures { λ _. ⌜ now (work .exit) ≡ keptCleared n k p (now (work .entry)) ⌝ }
 {
-    let mut pivot = [0.0f64; 32];
-    let from = p * w;
-    let until = from + w;
-    divide_row(&work[from..until], k, c, &mut pivot[..w]);
-    move_row(work, w, k, p);
-    let start = k * w;
-    let end = start + w;
-    put_row(&mut work[start..end], &pivot[..w]);
-    eliminate_rows(work, &pivot[..w], n, w, k, c);
+    let w = 2 * n + 2;
+    let m = n + 2;
+    let mut pivot = [0.0f64; 18];
+    let from = p * w + k;
+    let until = from + m;
+    divide_row(&work[from..until], n, &mut pivot[..m]);
+    move_part(work, k * w + k, from, m);
+    keep_rows(work, &pivot[..m], n, k);
 }
 
-// Clears column k of rows of 32 numbers, from the first column of its four on: those before are not read again.
-fn clear_wide(work: &mut [f64], n: usize, k: usize, p: usize)
-    requires { ⌜ (k < n) × (p < n) × (k < 16) × (n * 32 ≤ length (now work)) ⌝ }
-    ensures { λ _. ⌜ now (work .exit) ≡ clearedFrom (k / 4 * 4) n 32 k p (now (work .entry)) ⌝ }
+// Clears column k of n kept rows by the pivot in row p.
+pub fn clear_column(work: &mut [f64], n: usize, k: usize, p: usize)
+    requires { ⌜ (n ≤ 16) × (k < n) × (p < n) × (n * (2 * n + 2) ≤ length (now work)) ⌝ }
+    ensures { λ _. ⌜ now (work .exit) ≡ keptCleared n k p (now (work .entry)) ⌝ }
 {
-    if k < 4 {
-        clear_by(work, n, 32, k, p, 0);
+    if n == 16 {
+        clear_by(work, 16, k, p);
         return;
     }
-    if k < 8 {
-        clear_by(work, n, 32, k, p, 4);
+    if n == 4 {
+        clear_by(work, 4, k, p);
         return;
     }
-    if k < 12 {
-        clear_by(work, n, 32, k, p, 8);
-        return;
-    }
-    clear_by(work, n, 32, k, p, 12);
-}
-
-// Clears column k of n rows of w numbers by the pivot in row p. The columns before k are left free.
-pub fn clear_column(work: &mut [f64], n: usize, w: usize, k: usize, p: usize)
-    requires { ⌜ (k < n) × (p < n) × (n ≤ 16) × (k < w) × (w ≤ 32) × (n * w ≤ length (now work)) ⌝ }
-    ensures { λ _. ⌜ Agree k w (length (now (work .entry))) (now (work .exit)) (clearedBy n w k p (now (work .entry))) ⌝ }
-{
-    if w == 32 {
-        clear_wide(work, n, k, p);
-        return;
-    }
-    if w == 8 {
-        clear_by(work, n, 8, k, p, 0);
-        return;
-    }
-    clear_by(work, n, w, k, p, 0);
+    clear_by(work, n, k, p);
 }

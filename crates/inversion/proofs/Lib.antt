@@ -1,2 +1,5 @@
+pub mod Zeros
+pub mod Places
+pub mod Steps
 pub mod Halves
 pub mod Reductions

@@ -5,92 +5,113 @@ use mathlib.Core.List.{List, [], _++_}
 use Prim.Native.Nat.{ℕ, zero, suc, _+_, _-_, _*_, _≤_, _<_}
 use native.Mathlib.Nat.{le-refl}
 use native.Mathlib.Omega.{arith}
-use lib.ListN.{length, take, drop}
+use lib.ListN.{length, take, drop, getD}
 use lib.Seq.{take-at}
 use lib.Ieee as Ieee
 use lib.Ieee.{Float}
-use Rattle.lists.specs.Build.{over}
+use Rattle.lists.specs.Build.{build, over}
 use Rattle.lists.specs.Fold.{fold}
 use Rattle.lists.proofs.Folding.{fold-none, fold-more}
 use Rattle.lists.proofs.Choices.{yes, no}
-use Rattle.lists.proofs.Parts.{row-fits, row-in}
 use Rattle.numbers.specs.Number.{zeroF, _*ᶠ_, finite, abs, precedes}
 use Rattle.numbers.specs.Slice.{at}
 use Rattle.numbers.proofs.Leaves.{clash}
-use Rattle.elimination.specs.Rows.{Agree, clearedBy}
-use Rattle.elimination.proofs.Agreeing.{cleared-alike}
+use Rattle.elimination.specs.Rows.{clearedBy}
+use Rattle.elimination.specs.Kept.{keptCleared}
 use Rattle.pivots.specs.Pivots.{scaleOf, magnitude, sizeAt, largerRow, pivotRow}
-use Rattle.inversion.specs.Inversion.{besideIdentity, Reduction, rows, singular, columnReduced, reductionOf, isReduced, rightOf, rightHalves, invertible, inverseOf, Stands}
+use Rattle.inversion.specs.Inversion.{besideIdentity, Reduction, rows, singular, columnReduced, reductionOf, isReduced, rightOf, rightHalves, invertible, inverseOf}
+use Rattle.inversion.specs.Kept.{startRows, relabelled, Keeps, Stands, keptRight}
 use Rattle.pivots.proofs.Sizes.{same-limit}
 use Rattle.pivots.proofs.Picked.{either-below}
-use Rattle.inversion.proofs.Halves.{length-beside, length-right, right-agree}
+use Rattle.inversion.proofs.Halves.{keeps-first, length-right, right-kept}
+use Rattle.inversion.proofs.Steps.{keeps-on}
 
--- rows that agree in the columns from k on have the same pivot there
-module _ (n w k m : ℕ) (u v : List Float) (h : Agree k w m u v) (kn : k < n) (kw : k < w) (f : n * w ≤ m) where
-  same-size : (i : ℕ) → i < n → sizeAt w k u i ≡ sizeAt w k v i
-  same-size i l = ap abs (h .2 i k (le-refl k) kw (row-fits i n w m l f))
+-- either row lies from k on
+either-from : (k p i : ℕ) (b : Bool) → k ≤ p → k ≤ i → k ≤ cond b p i
+either-from k p i true a b = a
+either-from k p i false a b = b
 
-  same-rows : (t : ℕ) → t ≤ n - k → (fold t (λ t p. largerRow w k u p (k + t)) k ≡ fold t (λ t p. largerRow w k v p (k + t)) k) × (fold t (λ t p. largerRow w k u p (k + t)) k < n)
+-- kept rows have the matrix's pivot, and it is none of the rows before k
+module _ (n k : ℕ) (t : List ℕ) (u m : List Float) (h : Keeps n k t u m) (kn : k < n) where
+  same-size : (i : ℕ) → i < n → sizeAt (2 * n + 2) k u i ≡ sizeAt (2 * n) k m i
+  same-size i l = ap abs (h .left i k l (le-refl k) kn)
+
+  abbrev picked : ℕ → List Float → ℕ → ℕ
+  picked w l t = fold t (λ t p. largerRow w k l p (k + t)) k
+
+  same-rows : (t : ℕ) → t ≤ n - k → (picked (2 * n + 2) u t ≡ picked (2 * n) m t) × (picked (2 * n + 2) u t < n) × (k ≤ picked (2 * n + 2) u t)
   unfolding fold largerRow
-  same-rows zero l = (refl, kn)
+  same-rows zero l = (refl, kn, le-refl k)
   same-rows (suc t) l =
       let r = same-rows t (omega arith) in
-      let p = fold t (λ t p. largerRow w k u p (k + t)) k in
-      let e : largerRow w k u p (k + t) ≡ largerRow w k v p (k + t) = ap₂ (λ (x y : Float). cond (precedes x y) p (k + t)) (same-size (k + t) (omega arith)) (same-size p (r .1)) in
-      (e ∙ ap (λ (q : ℕ). largerRow w k v q (k + t)) (r .0), either-below n p (k + t) (precedes (sizeAt w k u (k + t)) (sizeAt w k u p)) _ (r .1) (omega arith) refl)
+      let p = picked (2 * n + 2) u t in
+      let b = precedes (sizeAt (2 * n + 2) k u (k + t)) (sizeAt (2 * n + 2) k u p) in
+      let e : largerRow (2 * n + 2) k u p (k + t) ≡ largerRow (2 * n) k m p (k + t) = ap₂ (λ (x y : Float). cond (precedes x y) p (k + t)) (same-size (k + t) (omega arith)) (same-size p (r .1)) in
+      (e ∙ ap (λ (q : ℕ). largerRow (2 * n) k m q (k + t)) (r .0), either-below n p (k + t) b _ (r .1) (omega arith) refl, either-from k p (k + t) b (r .2) (omega arith))
 
-  same-pivot : pivotRow n w k u ≡ pivotRow n w k v
+  same-pivot : pivotRow n (2 * n + 2) k u ≡ pivotRow n (2 * n) k m
   unfolding pivotRow
   same-pivot = same-rows (n - k) (le-refl (n - k)) .0
 
--- column k of a reduction that has come to the rows l, or has ended
-module _ (n : ℕ) (limit : Float) (k : ℕ) (l : List Float) (going : Bool) where
-  pub has-ended : going ≡ false → (s : Reduction) → Stands n k going l s → Stands n (k + 1) false l (columnReduced n limit k s)
+  pivot-from : k ≤ pivotRow n (2 * n + 2) k u
+  unfolding pivotRow
+  pivot-from = same-rows (n - k) (le-refl (n - k)) .2
+
+-- column k of a reduction that has come to the kept rows u, or has ended
+module _ (n : ℕ) (limit : Float) (k : ℕ) (t : List ℕ) (u : List Float) (going : Bool) where
+  pub has-ended : going ≡ false → (s : Reduction) → Stands n k going t u s → Stands n (k + 1) false t u (columnReduced n limit k s)
   unfolding columnReduced
   has-ended g (rows m) h = clash (sym g ∙ h .0)
   has-ended g singular h = refl
 
   -- the pivot is in row p, and its magnitude is x
-  module _ (p : ℕ) (x : Float) (g : going ≡ true) (kn : k < n) (pn : p < n) (q : p ≡ pivotRow n (2 * n) k l) (e : x ≡ magnitude (at l (p * (2 * n) + k))) where
-    row-of-pivot : (m : List Float) → Agree k (2 * n) (n * (2 * n)) l m → p ≡ pivotRow n (2 * n) k m
-    row-of-pivot m h = q ∙ same-pivot n (2 * n) k (n * (2 * n)) l m h kn (omega arith) (le-refl (n * (2 * n)))
+  module _ (p : ℕ) (x : Float) (g : going ≡ true) (kn : k < n) (pn : p < n) (q : p ≡ pivotRow n (2 * n + 2) k u) (e : x ≡ magnitude (at u (p * (2 * n + 2) + k))) where
+    row-of-pivot : (m : List Float) → Keeps n k t u m → p ≡ pivotRow n (2 * n) k m
+    row-of-pivot m h = q ∙ same-pivot n k t u m h kn
 
-    same-test : (m : List Float) → Agree k (2 * n) (n * (2 * n)) l m → Ieee.le (sizeAt (2 * n) k m (pivotRow n (2 * n) k m)) limit ≡ Ieee.le x limit
+    same-test : (m : List Float) → Keeps n k t u m → Ieee.le (sizeAt (2 * n) k m (pivotRow n (2 * n) k m)) limit ≡ Ieee.le x limit
     same-test m h =
         sym
         (ap (λ (y : Float). Ieee.le y limit) e
-        ∙ same-limit (at l (p * (2 * n) + k)) limit
-        ∙ ap (λ (y : Float). Ieee.le (abs y) limit) (h .2 p k (le-refl k) (omega arith) (row-in p n (2 * n) pn))
+        ∙ same-limit (at u (p * (2 * n + 2) + k)) limit
+        ∙ ap (λ (y : Float). Ieee.le (abs y) limit) (h .left p k pn (le-refl k) kn)
         ∙ ap (λ (r : ℕ). Ieee.le (sizeAt (2 * n) k m r) limit) (row-of-pivot m h))
 
-    pub ends-here : Ieee.le x limit ≡ true → (s : Reduction) → Stands n k going l s → Stands n (k + 1) false l (columnReduced n limit k s)
+    pub ends-here : Ieee.le x limit ≡ true → (s : Reduction) → Stands n k going t u s → Stands n (k + 1) false t u (columnReduced n limit k s)
     unfolding columnReduced
-    ends-here t (rows m) h = rw (same-test m (h .1), t) refl
-    ends-here t singular h = refl
+    ends-here l (rows m) h = rw (same-test m (h .1), l) refl
+    ends-here l singular h = refl
 
-    pub goes-on : (u : List Float) → Ieee.le x limit ≡ false → Agree k (2 * n) (length l) u (clearedBy n (2 * n) k p l)
-        → (s : Reduction) → Stands n k going l s → Stands n (k + 1) true u (columnReduced n limit k s)
+    pub goes-on : (t₁ : List ℕ) (u₁ : List Float) → Ieee.le x limit ≡ false → length t ≡ n → u₁ ≡ keptCleared n k p u → t₁ ≡ build (length t) (λ c. relabelled k p (getD t c 0))
+        → (s : Reduction) → Stands n k going t u s → Stands n (k + 1) true t₁ u₁ (columnReduced n limit k s)
     unfolding columnReduced
-    goes-on u t c (rows m) h =
-        let d = subst (λ (z : ℕ). Agree k (2 * n) z u (clearedBy n (2 * n) k p l)) (h .1 .0) c in
-        let a = cleared-alike n (2 * n) k p (n * (2 * n)) u l m kn pn (omega arith) (le-refl (n * (2 * n))) (h .1) d in
-        rw (same-test m (h .1), t, ← row-of-pivot m (h .1)) (refl, (a .0, a .1, λ i j b d f. a .2 i j (omega arith) d f))
-    goes-on u t c singular h = clash (sym h ∙ g)
+    goes-on t₁ u₁ l lt eu et (rows m) h =
+        let kp : k ≤ p = subst (λ (r : ℕ). k ≤ r) (sym q) (pivot-from n k t u m (h .1) kn) in
+        let d = keeps-on n k p t u m kn kp pn (h .1) in
+        let b : t₁ ≡ build n (λ c. relabelled k p (getD t c 0)) = et ∙ ap (λ (z : ℕ). build z (λ c. relabelled k p (getD t c 0))) lt in
+        let a = subst (λ (v : List Float). Keeps n (k + 1) t₁ v (clearedBy n (2 * n) k p m)) (sym eu) (subst (λ (v : List ℕ). Keeps n (k + 1) v (keptCleared n k p u) (clearedBy n (2 * n) k p m)) (sym b) d) in
+        rw (same-test m (h .1), l, ← row-of-pivot m (h .1)) (refl, a)
+    goes-on t₁ u₁ l lt eu et singular h = clash (sym h ∙ g)
 
 -- the reduction before column k, column after column
 module _ (n : ℕ) (limit : Float) (a : List Float) where
-  pub stands-first : (l : List Float) → l ≡ besideIdentity n a → Stands n 0 true l (fold 0 (columnReduced n limit) (rows (besideIdentity n a)))
-  stands-first l e =
-      subst (Stands n 0 true l) (fold-none (columnReduced n limit) (rows (besideIdentity n a)))
-      (refl, (ap length e ∙ length-beside n a, length-beside n a, λ i j _ _ _. ap (λ (m : List Float). at m (i * (2 * n) + j)) e))
+  pub stands-first : (t : List ℕ) (u : List Float) (z : ℕ) → z ≡ n → t ≡ build z (λ c. c) → u ≡ startRows n a → Stands n 0 true t u (fold 0 (columnReduced n limit) (rows (besideIdentity n a)))
+  stands-first t u z e f g =
+      subst (Stands n 0 true t u) (fold-none (columnReduced n limit) (rows (besideIdentity n a)))
+      (refl, subst (λ (v : List Float). Keeps n 0 t v (besideIdentity n a)) (sym g) (subst (λ (v : List ℕ). Keeps n 0 v (startRows n a) (besideIdentity n a)) (sym (f ∙ ap (λ (z : ℕ). build z (λ c. c)) e)) (keeps-first n a)))
 
-  pub stands-next : (k : ℕ) (going : Bool) (l : List Float) → Stands n (k + 1) going l (columnReduced n limit k (fold k (columnReduced n limit) (rows (besideIdentity n a))))
-      → Stands n (k + 1) going l (fold (k + 1) (columnReduced n limit) (rows (besideIdentity n a)))
-  stands-next k going l h = subst (Stands n (k + 1) going l) (fold-more (columnReduced n limit) k (rows (besideIdentity n a)) _ _ refl refl) h
+  pub stands-next : (k : ℕ) (going : Bool) (t : List ℕ) (u : List Float) → Stands n (k + 1) going t u (columnReduced n limit k (fold k (columnReduced n limit) (rows (besideIdentity n a))))
+      → Stands n (k + 1) going t u (fold (k + 1) (columnReduced n limit) (rows (besideIdentity n a)))
+  stands-next k going t u h = subst (Stands n (k + 1) going t u) (fold-more (columnReduced n limit) k (rows (besideIdentity n a)) _ _ refl refl) h
 
-  pub stands-last : (k : ℕ) (going : Bool) (l : List Float) → k ≡ n → Stands n k going l (fold k (columnReduced n limit) (rows (besideIdentity n a)))
-      → Stands n n going l (fold n (columnReduced n limit) (rows (besideIdentity n a)))
-  stands-last k going l e h = subst (λ (j : ℕ). Stands n j going l (fold j (columnReduced n limit) (rows (besideIdentity n a)))) e h
+  pub stands-last : (k : ℕ) (going : Bool) (t : List ℕ) (u : List Float) → k ≡ n → Stands n k going t u (fold k (columnReduced n limit) (rows (besideIdentity n a)))
+      → Stands n n going t u (fold n (columnReduced n limit) (rows (besideIdentity n a)))
+  stands-last k going t u e h = subst (λ (j : ℕ). Stands n j going t u (fold j (columnReduced n limit) (rows (besideIdentity n a)))) e h
+
+-- of a reduction that was not ended the places lie within n, also where they are lent again
+pub places-within : (n : ℕ) (going : Bool) (t r : List ℕ) (u : List Float) (s : Reduction) → length t ≡ n → going ≡ true → Stands n n going t u s → (c : ℕ) → c < n → getD (take n (t ++ r)) c 0 < n
+places-within n going t r u (rows m) e g h c l = subst (λ (x : List ℕ). getD x c 0 < n) (sym (take-at t r n e)) (h .1 .within c l)
+places-within n going t r u singular e g h c l = clash (sym h ∙ g)
 
 -- the tests of the scale s
 module _ (n : ℕ) (threshold : Float) (a : List Float) (s : Float) (e : s ≡ scaleOf (n * n) a) where
@@ -102,12 +123,12 @@ module _ (n : ℕ) (threshold : Float) (a : List Float) (s : Float) (e : s ≡ s
   unfolding reductionOf
   not-finite z f = rw (← e) (no _ z (yes _ f))
 
-  pub all-reduced : (found : Bool) (y : List Float) → Ieee.eq s zeroF ≡ false → not (finite s) ≡ false
-      → Stands n n found y (fold n (columnReduced n (threshold *ᶠ s)) (rows (besideIdentity n a))) → Stands n n found y (reductionOf n threshold a)
+  pub all-reduced : (found : Bool) (t : List ℕ) (y : List Float) → Ieee.eq s zeroF ≡ false → not (finite s) ≡ false
+      → Stands n n found t y (fold n (columnReduced n (threshold *ᶠ s)) (rows (besideIdentity n a))) → Stands n n found t y (reductionOf n threshold a)
   unfolding reductionOf
-  all-reduced found y z f h =
+  all-reduced found t y z f h =
       let q : fold n (columnReduced n (threshold *ᶠ s)) (rows (besideIdentity n a)) ≡ reductionOf n threshold a = rw (← e) (no _ z (no _ f refl)) in
-      subst (Stands n n found y) q h
+      subst (Stands n n found t y) q h
 
 module _ (n : ℕ) (threshold : Float) (a : List Float) where
   -- a singular matrix: the answer, and the list d as it was
@@ -122,21 +143,25 @@ module _ (n : ℕ) (threshold : Float) (a : List Float) where
   an-inverse l d m h e =
       (ap isReduced h, e ∙ ap (λ (c : ℕ). rightHalves n l ++ drop c d) (sym (length-right n l)) ∙ ap (λ (r : Reduction). over (rightOf n r) d) h)
 
-  -- the reduction of the lent rows y is done: it ended before the last column, or their right halves were written over the front of d
-  pub none-found : (found : Bool) (y d : List Float) → found ≡ false → Stands n n found y (reductionOf n threshold a)
+  -- the reduction of the lent rows u is done: it ended before the last column, or the right half was written over the front of d
+  pub none-found : (found : Bool) (t : List ℕ) (u d : List Float) → found ≡ false → Stands n n found t u (reductionOf n threshold a)
       → (false ≡ invertible n threshold a) × (d ≡ over (inverseOf n threshold a) d)
-  none-found found y d f h = no-inverse d (go (reductionOf n threshold a) h)
+  none-found found t u d f h = no-inverse d (go (reductionOf n threshold a) h)
     where
-      go : (r : Reduction) → Stands n n found y r → singular ≡ r
+      go : (r : Reduction) → Stands n n found t u r → singular ≡ r
       go (rows m) s = clash (sym f ∙ s .0)
       go singular s = refl
 
-  pub one-found : (found : Bool) (y rest d m : List Float) (size : ℕ) → found ≡ true → length y ≡ size → Stands n n found y (reductionOf n threshold a)
-      → m ≡ rightHalves n (take size (y ++ rest)) ++ drop (n * n) d → (true ≡ invertible n threshold a) × (m ≡ over (inverseOf n threshold a) d)
-  one-found found y rest d m size f e h w = go (reductionOf n threshold a) refl h
+  pub one-found : (found : Bool) (t r : List ℕ) (u rest d m : List Float) (size : ℕ) → found ≡ true → length t ≡ n → length u ≡ size → Stands n n found t u (reductionOf n threshold a)
+      → m ≡ keptRight n (take n (t ++ r)) (take size (u ++ rest)) ++ drop (n * n) d → (true ≡ invertible n threshold a) × (m ≡ over (inverseOf n threshold a) d)
+  one-found found t r u rest d m size f lt lu h w = go (reductionOf n threshold a) refl h
     where
-      go : (r : Reduction) → r ≡ reductionOf n threshold a → Stands n n found y r → (true ≡ invertible n threshold a) × (m ≡ over (inverseOf n threshold a) d)
-      go (rows l) q s = an-inverse l d m q (w ∙ ap (λ (z : List Float). rightHalves n z ++ drop (n * n) d) (take-at y rest size e) ∙ ap (λ (z : List Float). z ++ drop (n * n) d) (right-agree n y l (s .1)))
+      go : (s : Reduction) → s ≡ reductionOf n threshold a → Stands n n found t u s → (true ≡ invertible n threshold a) × (m ≡ over (inverseOf n threshold a) d)
+      go (rows l) q s =
+          an-inverse l d m q
+          (w
+          ∙ ap₂ (λ (x : List ℕ) (y : List Float). keptRight n x y ++ drop (n * n) d) (take-at t r n lt) (take-at u rest size lu)
+          ∙ ap (λ (z : List Float). z ++ drop (n * n) d) (right-kept n t u l (s .1)))
       go singular q s = clash (sym s ∙ f)
 
   pub length-inverse : invertible n threshold a ≡ true → length (inverseOf n threshold a) ≡ n * n

@@ -1,7 +1,6 @@
 -- The inverse of a real n by n matrix by Gauss-Jordan elimination with partial pivoting (Golub and Van Loan, section 3.4), and with document 01's rule
 -- for pivots and the Rust's threshold. The matrix lies by rows. It is reduced beside the identity, in rows of 2n numbers.
 use Prim.Native.Nat.{ℕ, _+_, _*_, _/_, _%_}
-use mathlib.Core.Path.{_≡_}
 use mathlib.Core.Bool.{Bool, true, false, not, cond}
 use mathlib.Core.List.{List, []}
 use lib.Dec.{eqb, ltb}
@@ -11,7 +10,7 @@ use Rattle.lists.specs.Build.{build}
 use Rattle.lists.specs.Fold.{fold}
 use Rattle.numbers.specs.Number.{zeroF, oneF, _*ᶠ_, finite}
 use Rattle.numbers.specs.Slice.{at}
-use Rattle.elimination.specs.Rows.{clearedBy, Agree}
+use Rattle.elimination.specs.Rows.{clearedBy}
 use Rattle.pivots.specs.Pivots.{scaleOf, sizeAt, pivotRow}
 
 -- entry j of row i of the matrix beside the identity
@@ -60,8 +59,3 @@ invertible n threshold a = isReduced (reductionOf n threshold a)
 -- the inverse by rows; none where there is none
 unfoldable pub inverseOf : ℕ → Float → List Float → List Float
 inverseOf n threshold a = rightOf n (reductionOf n threshold a)
-
--- what the code holds of a reduction before column k: whether it goes on, and rows that agree with the reduction's in the columns from k on
-abbrev pub Stands : ℕ → ℕ → Bool → List Float → Reduction → Type 0
-Stands n k going l (rows m) = (going ≡ true) × Agree k (2 * n) (n * (2 * n)) l m
-Stands n k going l singular = going ≡ false

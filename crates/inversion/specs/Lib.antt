@@ -1,1 +1,2 @@
 pub mod Inversion
+pub mod Kept

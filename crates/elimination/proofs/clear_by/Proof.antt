@@ -1,36 +1,47 @@
 -- `elimination::clear_by` meets its contract. Assumes nothing.
 use Prim.Native.Nat.{_*_, _+_}
-use mathlib.Core.Path.{sym, refl, _∙_}
-use native.Mathlib.Nat.{le-of-eq}
+use mathlib.Core.Path.{sym, refl}
 use native.Mathlib.Omega.{arith}
 use denote.Ref.{now}
 use lib.Seq.{length-take-le}
-use Rattle.lists.proofs.Parts.{front-long, row-fits, lent-long}
-use Rattle.elimination.proofs.Lent.{length-from, cleared-back}
+use Rattle.lists.proofs.Parts.{front-long, lent-long}
+use Rattle.elimination.proofs.Lent.{length-quotients, counted-fits, cleared-back}
 use borrow.Author.Needs.{needs}
 use Rattle.elimination.proofs.clear_by.Statement.{statement}
 use Rattle.elimination.proofs.clear_by.Tie as tie
+
+mul-w : tie.Need-mul-w
+mul-w c = search needs
+
+add-w : tie.Need-add-w
+add-w c = search needs
+
+add-m : tie.Need-add-m
+add-m c = search needs
 
 mul-from : tie.Need-mul-from
 mul-from c =
     let o = c .before in
     let a = o .args in
-    let fits = row-fits (a .p) (a .n) (a .w) _ (o .pre .1) (o .pre .4) in
-    omega (arith, fits)
+    omega (arith, counted-fits (a .n) (a .k) (a .p) _ (o .pre .1) (o .pre .2) (o .pre .3))
+
+add-from : tie.Need-add-from
+add-from c =
+    let o = c .before in
+    let a = o .args in
+    omega (arith, counted-fits (a .n) (a .k) (a .p) _ (o .pre .1) (o .pre .2) (o .pre .3))
 
 add-until : tie.Need-add-until
 add-until c =
     let o = c .before in
     let a = o .args in
-    let fits = row-fits (a .p) (a .n) (a .w) _ (o .pre .1) (o .pre .4) in
-    omega (arith, fits)
+    omega (arith, counted-fits (a .n) (a .k) (a .p) _ (o .pre .1) (o .pre .2) (o .pre .3))
 
 mul-divide-row : tie.Need-mul-divide-row
 mul-divide-row c =
     let o = c .before in
     let a = o .args in
-    let fits = row-fits (a .p) (a .n) (a .w) _ (o .pre .1) (o .pre .4) in
-    omega (arith, fits)
+    omega (arith, counted-fits (a .n) (a .k) (a .p) _ (o .pre .1) (o .pre .2) (o .pre .3))
 
 sub-divide-row : tie.Need-sub-divide-row
 sub-divide-row c = search needs
@@ -42,134 +53,71 @@ part-divide-row-end : tie.Need-part-divide-row-end
 part-divide-row-end c =
     let o = c .before .before in
     let a = o .args in
-    let fits = row-fits (a .p) (a .n) (a .w) _ (o .pre .1) (o .pre .4) in
-    omega (arith, fits)
+    omega (arith, counted-fits (a .n) (a .k) (a .p) _ (o .pre .1) (o .pre .2) (o .pre .3))
 
 array-borrow-prefix-pivot : tie.Need-array-borrow-prefix-pivot
 array-borrow-prefix-pivot c = search needs
 
 slice-aggregate-divide-row : tie.Need-slice-aggregate-divide-row
-slice-aggregate-divide-row c =
-    sym (length-take-le _ _ (c .before .before .before .before .pre .3))
+slice-aggregate-divide-row c = sym (length-take-le _ _ (omega arith))
 
 divide-row-requires : tie.Need-divide-row-requires
 divide-row-requires c κs =
     let o = c .before .before .before .before in
     let a = o .args in
-    let fits = row-fits (a .p) (a .n) (a .w) _ (o .pre .1) (o .pre .4) in
-    let lent = lent-long (a .p * a .w) (a .p * a .w + a .w) (a .w) (now (a .work)) refl fits in
-    (omega (arith, lent), length-take-le _ _ (o .pre .3) ∙ sym lent)
+    (lent-long (a .p * (2 * a .n + 2) + a .k) _ (a .n + 2) (now (a .work)) refl (counted-fits (a .n) (a .k) (a .p) _ (o .pre .1) (o .pre .2) (o .pre .3)), length-take-le _ _ (omega arith))
 
-move-row-requires : tie.Need-move-row-requires
-move-row-requires c κs =
+mul-move-part : tie.Need-mul-move-part
+mul-move-part c =
     let o = c .before .before .before .before .before .before .before in
     let a = o .args in
-    let fits-k = row-fits (a .k) (a .n) (a .w) _ (o .pre .0) (o .pre .4) in
-    let fits-p = row-fits (a .p) (a .n) (a .w) _ (o .pre .1) (o .pre .4) in
-    (search needs, fits-k, fits-p)
+    omega (arith, counted-fits (a .n) (a .k) (a .k) _ (o .pre .1) (o .pre .1) (o .pre .3))
 
-mul-start : tie.Need-mul-start
-mul-start c =
-    let o = c .before .before .before .before .before .before .before .before .before .before in
+add-move-part : tie.Need-add-move-part
+add-move-part c =
+    let o = c .before .before .before .before .before .before .before in
     let a = o .args in
-    let fits = row-fits (a .k) (a .n) (a .w) _ (o .pre .0) (o .pre .4) in
-    omega (arith, fits)
+    omega (arith, counted-fits (a .n) (a .k) (a .k) _ (o .pre .1) (o .pre .1) (o .pre .3))
 
-add-end : tie.Need-add-end
-add-end c =
-    let o = c .before .before .before .before .before .before .before .before .before .before in
+move-part-requires : tie.Need-move-part-requires
+move-part-requires c κs =
+    let o = c .before .before .before .before .before .before .before in
     let a = o .args in
-    let fits = row-fits (a .k) (a .n) (a .w) _ (o .pre .0) (o .pre .4) in
-    omega (arith, fits)
-
-mul-put-row : tie.Need-mul-put-row
-mul-put-row c =
-    let o = c .before .before .before .before .before .before .before .before .before .before in
-    let a = o .args in
-    let fits = row-fits (a .k) (a .n) (a .w) _ (o .pre .0) (o .pre .4) in
-    omega (arith, fits)
-
-sub-put-row : tie.Need-sub-put-row
-sub-put-row c = search needs
-
-part-put-row-start : tie.Need-part-put-row-start
-part-put-row-start c = search needs
-
-part-put-row-end : tie.Need-part-put-row-end
-part-put-row-end c =
-    let o = c .before .before .before .before .before .before .before .before .before .before in
-    let a = o .args in
-    let fits = row-fits (a .k) (a .n) (a .w) _ (o .pre .0) (o .pre .4) in
-    omega (arith, fits)
+    (search needs, counted-fits (a .n) (a .k) (a .k) _ (o .pre .1) (o .pre .1) (o .pre .3), counted-fits (a .n) (a .k) (a .p) _ (o .pre .1) (o .pre .2) (o .pre .3))
 
 array-share-prefix-pivot : tie.Need-array-share-prefix-pivot
 array-share-prefix-pivot c =
-    let o = c .before .before .before .before .before .before .before .before .before .before .before in
-    let a = o .args in
-    let fits = row-fits (a .p) (a .n) (a .w) _ (o .pre .1) (o .pre .4) in
-    let lent = lent-long (a .p * a .w) (a .p * a .w + a .w) (a .w) (now (a .work)) refl fits in
-    front-long (a .w) _ _ _ (c .before .before .before .before .before .before .divide-row .ensures) (length-from _ _ _ ∙ lent)
+    let a = c .before .before .before .before .before .before .before .before .before .before .before .args in
+    front-long (a .n + 2) _ _ _ (c .before .before .before .before .before .before .divide-row .ensures) (length-quotients _ _)
 
-slice-aggregate-put-row : tie.Need-slice-aggregate-put-row
-slice-aggregate-put-row c =
+slice-aggregate-keep-rows : tie.Need-slice-aggregate-keep-rows
+slice-aggregate-keep-rows c =
+    let a = c .before .before .before .before .before .before .before .before .before .before .before .before .args in
+    sym (length-take-le _ _ (front-long (a .n + 2) _ _ _ (c .before .before .before .before .before .before .before .divide-row .ensures) (length-quotients _ _)))
+
+keep-rows-requires : tie.Need-keep-rows-requires
+keep-rows-requires c κs =
     let o = c .before .before .before .before .before .before .before .before .before .before .before .before in
     let a = o .args in
-    let fits = row-fits (a .p) (a .n) (a .w) _ (o .pre .1) (o .pre .4) in
-    let lent = lent-long (a .p * a .w) (a .p * a .w + a .w) (a .w) (now (a .work)) refl fits in
-    let long = front-long (a .w) _ _ _ (c .before .before .before .before .before .before .before .divide-row .ensures) (length-from _ _ _ ∙ lent) in
-    sym (length-take-le _ _ long)
-
-put-row-requires : tie.Need-put-row-requires
-put-row-requires c κs =
-    let o = c .before .before .before .before .before .before .before .before .before .before .before .before in
-    let a = o .args in
-    let fits-k = row-fits (a .k) (a .n) (a .w) _ (o .pre .0) (o .pre .4) in
-    let fits-p = row-fits (a .p) (a .n) (a .w) _ (o .pre .1) (o .pre .4) in
-    let lent = lent-long (a .p * a .w) (a .p * a .w + a .w) (a .w) (now (a .work)) refl fits-p in
-    let long = front-long (a .w) _ _ _ (c .before .before .before .before .before .before .before .divide-row .ensures) (length-from _ _ _ ∙ lent) in
-    le-of-eq (lent-long (a .k * a .w) (a .k * a .w + a .w) (a .w) _ refl (omega (arith, fits-k)) ∙ sym (length-take-le _ _ long))
-
-array-share-prefix-pivot-2 : tie.Need-array-share-prefix-pivot-2
-array-share-prefix-pivot-2 c =
-    let o = c .before .before .before .before .before .before .before .before .before .before .before .before .before .before .before .before in
-    let a = o .args in
-    let fits = row-fits (a .p) (a .n) (a .w) _ (o .pre .1) (o .pre .4) in
-    let lent = lent-long (a .p * a .w) (a .p * a .w + a .w) (a .w) (now (a .work)) refl fits in
-    front-long (a .w) _ _ _ (c .before .before .before .before .before .before .before .before .before .before .before .divide-row .ensures) (length-from _ _ _ ∙ lent)
-
-slice-aggregate-eliminate-rows : tie.Need-slice-aggregate-eliminate-rows
-slice-aggregate-eliminate-rows c =
-    let o = c .before .before .before .before .before .before .before .before .before .before .before .before .before .before .before .before .before in
-    let a = o .args in
-    let fits = row-fits (a .p) (a .n) (a .w) _ (o .pre .1) (o .pre .4) in
-    let lent = lent-long (a .p * a .w) (a .p * a .w + a .w) (a .w) (now (a .work)) refl fits in
-    let long = front-long (a .w) _ _ _ (c .before .before .before .before .before .before .before .before .before .before .before .before .divide-row .ensures) (length-from _ _ _ ∙ lent) in
-    sym (length-take-le _ _ long)
-
-eliminate-rows-requires : tie.Need-eliminate-rows-requires
-eliminate-rows-requires c κs =
-    let o = c .before .before .before .before .before .before .before .before .before .before .before .before .before .before .before .before .before in
-    let a = o .args in
-    let fits = row-fits (a .p) (a .n) (a .w) _ (o .pre .1) (o .pre .4) in
-    let lent = lent-long (a .p * a .w) (a .p * a .w + a .w) (a .w) (now (a .work)) refl fits in
-    (o .pre .5, o .pre .2, length-take-le _ _ (front-long (a .w) _ _ _ (c .before .before .before .before .before .before .before .before .before .before .before .before .divide-row .ensures) (length-from _ _ _ ∙ lent)), search needs)
+    (search needs, search needs, omega (arith, o .pre .3), length-take-le _ _ (front-long (a .n + 2) _ _ _ (c .before .before .before .before .before .before .before .divide-row .ensures) (length-quotients _ _)))
 
 same-length : tie.Need-same-length
 same-length c = search needs
 
 returns : tie.Need-returns
 returns c =
-    let o = c .before .before .before .before .before .before .before .before .before .before .before .before .before .before .before .before .before .before .before .before in
-    let a = o .args in
-    let fits-k = row-fits (a .k) (a .n) (a .w) _ (o .pre .0) (o .pre .4) in
-    let fits-p = row-fits (a .p) (a .n) (a .w) _ (o .pre .1) (o .pre .4) in
-    cleared-back (a .c) (a .n) (a .w) (a .k) (a .p) (now (a .work)) _ _ _ _ _ fits-k fits-p (c .before .before .before .before .before .before .before .before .before .before .before .before .before .before .before .divide-row .ensures) (c .before .before .before .before .before .before .before .before .before .before .before .before .move-row .ensures) (c .before .before .before .before .before .before .before .put-row .ensures) (c .before .before .eliminate-rows .ensures)
+    let a = c .before .before .before .before .before .before .before .before .before .before .before .before .before .before .before .args in
+    cleared-back (a .n) (a .k) (a .p) _ (now (a .work)) _ _ _ _ refl (c .before .before .before .before .before .before .before .before .before .before .divide-row .ensures) (c .before .before .before .before .before .before .before .move-part .ensures) (c .before .before .keep-rows .ensures)
 
 pub clear-by-spec : {M : Type 1} → statement M
 clear-by-spec =
     tie.close
     (tie.spec
+    mul-w
+    add-w
+    add-m
     mul-from
+    add-from
     add-until
     mul-divide-row
     sub-divide-row
@@ -178,18 +126,11 @@ clear-by-spec =
     array-borrow-prefix-pivot
     slice-aggregate-divide-row
     divide-row-requires
-    move-row-requires
-    mul-start
-    add-end
-    mul-put-row
-    sub-put-row
-    part-put-row-start
-    part-put-row-end
+    mul-move-part
+    add-move-part
+    move-part-requires
     array-share-prefix-pivot
-    slice-aggregate-put-row
-    put-row-requires
-    array-share-prefix-pivot-2
-    slice-aggregate-eliminate-rows
-    eliminate-rows-requires
+    slice-aggregate-keep-rows
+    keep-rows-requires
     same-length
     returns)

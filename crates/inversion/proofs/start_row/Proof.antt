@@ -1,14 +1,14 @@
--- `inversion::beside_row` meets its contract. Assumes nothing.
+-- `inversion::start_row` meets its contract. Assumes nothing.
 use Prim.Native.Nat.{_+_, _*_}
 use mathlib.Core.Path.{sym, refl}
 use native.Mathlib.Omega.{arith}
 use denote.Ref.{now}
 use lib.Seq.{length-take-le}
 use Rattle.lists.proofs.Parts.{row-fits, lent-long}
-use Rattle.inversion.proofs.Halves.{beside-back}
+use Rattle.inversion.proofs.Halves.{start-back}
 use borrow.Author.Needs.{needs}
-use Rattle.inversion.proofs.beside_row.Statement.{statement}
-use Rattle.inversion.proofs.beside_row.Tie as tie
+use Rattle.inversion.proofs.start_row.Statement.{statement}
+use Rattle.inversion.proofs.start_row.Tie as tie
 
 mul-start : tie.Need-mul-start
 mul-start c =
@@ -52,20 +52,20 @@ put-row-requires c κs =
     let a = o .args in
     omega (arith, length-take-le (a .n) (now (a .row)) (omega arith), lent-long (a .i * a .n) (a .i * a .n + a .n) (a .n) (now (a .a)) refl (row-fits (a .i) (a .n) (a .n) _ (o .pre .1) (o .pre .2)))
 
-mul-unit-row : tie.Need-mul-unit-row
-mul-unit-row c = search needs
+mul-clear : tie.Need-mul-clear
+mul-clear c = search needs
 
-sub-unit-row : tie.Need-sub-unit-row
-sub-unit-row c = search needs
+sub-clear : tie.Need-sub-clear
+sub-clear c = search needs
 
-part-unit-row-start : tie.Need-part-unit-row-start
-part-unit-row-start c = search needs
+part-clear-start : tie.Need-part-clear-start
+part-clear-start c = search needs
 
-part-unit-row-end : tie.Need-part-unit-row-end
-part-unit-row-end c = search needs
+part-clear-end : tie.Need-part-clear-end
+part-clear-end c = search needs
 
-unit-row-requires : tie.Need-unit-row-requires
-unit-row-requires c κs = search needs
+clear-requires : tie.Need-clear-requires
+clear-requires c κs = search needs
 
 same-length : tie.Need-same-length
 same-length c = search needs
@@ -74,10 +74,10 @@ returns : tie.Need-returns
 returns c =
     let o = c .before .before .before .before .before .before .before .before .before .before .before in
     let a = o .args in
-    beside-back (a .n) (a .i) _ (now (a .a)) (now (a .row)) _ _ (row-fits (a .i) (a .n) (a .n) _ (o .pre .1) (o .pre .2)) (o .pre .3) refl (c .before .before .before .before .before .before .put-row .ensures) (c .before .before .unit-row .ensures)
+    start-back (a .n) (a .i) _ (now (a .a)) (now (a .row)) _ _ (row-fits (a .i) (a .n) (a .n) _ (o .pre .1) (o .pre .2)) (o .pre .3) refl (c .before .before .before .before .before .before .put-row .ensures) (c .before .before .clear .ensures)
 
-pub beside-row-spec : {M : Type 1} → statement M
-beside-row-spec =
+pub start-row-spec : {M : Type 1} → statement M
+start-row-spec =
     tie.close
     (tie.spec
     mul-start
@@ -89,10 +89,10 @@ beside-row-spec =
     part-put-row-start
     part-put-row-end
     put-row-requires
-    mul-unit-row
-    sub-unit-row
-    part-unit-row-start
-    part-unit-row-end
-    unit-row-requires
+    mul-clear
+    sub-clear
+    part-clear-start
+    part-clear-end
+    clear-requires
     same-length
     returns)

@@ -1,29 +1,23 @@
--- `elimination::move_row` meets its contract. Assumes nothing.
-use Prim.Native.Nat.{_+_, _*_}
+-- `elimination::move_part` meets its contract. Assumes nothing.
+use Prim.Native.Nat.{_+_}
 use mathlib.Core.Path.{refl, sym}
 use denote.Ref.{now}
+use Rattle.lists.specs.Part.{part}
 use Rattle.lists.proofs.Parts.{put-back, put-same, copied}
-use Rattle.elimination.specs.Rows.{rowOf}
 use borrow.Author.Needs.{needs}
-use Rattle.elimination.proofs.move_row.Statement.{statement}
-use Rattle.elimination.proofs.move_row.Tie as tie
+use Rattle.elimination.proofs.move_part.Statement.{statement}
+use Rattle.elimination.proofs.move_part.Tie as tie
 
 returns : tie.Need-returns
 returns c =
     let a = c .before .before .args in
-    sym (rw (c .if1 .taken) (put-same (a .k * a .w) (a .w) (now (a .work))))
-
-mul-copy-row : tie.Need-mul-copy-row
-mul-copy-row c = search needs
+    sym (rw (c .if1 .taken) (put-same (a .from) (a .m) (now (a .work))))
 
 slice-aggregate-copy-row : tie.Need-slice-aggregate-copy-row
 slice-aggregate-copy-row c = search needs
 
 copy-row-requires : tie.Need-copy-row-requires
 copy-row-requires c κs = search needs
-
-mul-start : tie.Need-mul-start
-mul-start c = search needs
 
 add-end : tie.Need-add-end
 add-end c = search needs
@@ -53,18 +47,15 @@ returns-2 : tie.Need-returns-2
 returns-2 c =
     let o = c .before .before .before .before .before .before .before .before .before .before .before in
     let a = o .args in
-    let row = copied (a .k * a .w) (a .w) (now (a .work)) _ _ (o .pre .1) (c .before .before .before .before .before .before .copy-row .ensures) in
-    put-back (a .p * a .w) (a .p * a .w + a .w) (a .w) (rowOf (a .w) (a .k) (now (a .work))) _ (now (a .work)) _ refl (o .pre .2) row (c .before .before .put-row .ensures)
+    put-back (a .to) (a .to + a .m) (a .m) (part (a .from) (a .m) (now (a .work))) _ (now (a .work)) _ refl (o .pre .2) (copied (a .from) (a .m) (now (a .work)) _ _ (o .pre .1) (c .before .before .before .before .before .before .copy-row .ensures)) (c .before .before .put-row .ensures)
 
-pub move-row-spec : {M : Type 1} → statement M
-move-row-spec =
+pub move-part-spec : {M : Type 1} → statement M
+move-part-spec =
     tie.close
     (tie.spec
     returns
-    mul-copy-row
     slice-aggregate-copy-row
     copy-row-requires
-    mul-start
     add-end
     mul-put-row
     sub-put-row
