@@ -4,9 +4,13 @@ use mathlib.Core.Bool.{Bool, true, false, cond}
 use Prim.Native.Nat.{ℕ, _≤_, _<_}
 use native.Mathlib.Nat.{le-refl}
 use native.Mathlib.Omega.{arith}
+use mathlib.Core.List.{List}
 use lib.Dec.{eqb}
+use lib.ListN.{length, getD}
 use borrow.Author.Tests.{eqb-true, eqb-false, eq-eqb, ne-eqb}
+use Rattle.lists.specs.Build.{build}
 use Rattle.lists.proofs.Choices.{yes, no}
+use Rattle.lists.proofs.Filling.{build-same, build-all}
 use Rattle.elimination.proofs.Cleared.{before}
 use Rattle.inversion.specs.Kept.{relabelled}
 
@@ -62,6 +66,14 @@ module _ (k p : ℕ) where
     unfolding relabelled
     relabelled-own o e = sym (no _ (ne-eqb q k o) (no _ (ne-eqb q p e) refl))
 
+    -- a row that stays in its place changes none
+    relabelled-same : p ≡ k → relabelled k p q ≡ q
+    relabelled-same e = go (eqb q k) refl
+      where
+        go : (b : Bool) → eqb q k ≡ b → relabelled k p q ≡ q
+        go true b = let f = eqb-true q k b in to-p f ∙ e ∙ sym f
+        go false b = let f = eqb-false q k b in relabelled-own f (λ g. f (g ∙ e))
+
     -- the pivot's column gets the place k
     pub relabelled-pivot : q ≡ p → relabelled k p q ≡ k
     relabelled-pivot e = go (eqb q k) refl
@@ -105,3 +117,6 @@ module _ (k p : ℕ) where
               let f = eqb-false i p b in
               let g : i ≡ q = sym (before-own i f) ∙ e in
               g ∙ sym (relabelled-own (λ x. ok (g ∙ x)) o)
+
+pub places-same : (k p : ℕ) (t : List ℕ) → p ≡ k → t ≡ build (length t) (λ c. relabelled k p (getD t c 0))
+places-same k p t e = sym (build-same (length t) _ (λ c. getD t c 0) (λ c _. relabelled-same k p (getD t c 0) e) ∙ build-all 0 t)

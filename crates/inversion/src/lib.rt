@@ -58,6 +58,9 @@ fn moved(k: usize, p: usize, q: usize) -> usize
 fn relabel(places: &mut [usize], k: usize, p: usize)
     ensures { λ _. ⌜ now (places .exit) ≡ build (length (now (places .entry))) (λ c. relabelled k p (getD (now (places .entry)) c 0)) ⌝ }
 {
+    if p == k {
+        return;
+    }
     let n = places.len();
     for c in 0..n {
         places[c] = moved(k, p, places[c]);

@@ -6,6 +6,7 @@ use denote.Ref.{now}
 use lib.ListN.{length}
 use Rattle.lists.proofs.Filling.{Filled, mapped, fill-none, map-more, fill-all}
 use Rattle.inversion.specs.Kept.{relabelled}
+use Rattle.inversion.proofs.Places.{places-same}
 use borrow.Author.Needs.{needs}
 use Rattle.inversion.proofs.relabel.Statement.{statement}
 use Rattle.inversion.proofs.relabel.Tie as tie
@@ -15,6 +16,11 @@ Inv-loop places₀ k p n c₀ places c = (c ≤ n) × (length places ≡ length 
 
 abbrev μ-loop : tie.MeasureT-loop
 μ-loop places₀ k p n c₀ places c = n - c
+
+returns : tie.Need-returns Inv-loop μ-loop
+returns c =
+    let a = c .before .before .args in
+    places-same (a .k) (a .p) (now (a .places)) (c .if1 .taken)
 
 loop-holds : tie.Need-loop-holds Inv-loop μ-loop
 loop-holds c = (search needs, search needs, fill-none _ _)
@@ -42,14 +48,14 @@ loop-less c = search needs
 
 loop-again : tie.Need-loop-again Inv-loop μ-loop
 loop-again c =
-    let a = c .before .before .before .before .before .args in
+    let a = c .before .before .before .before .before .before .args in
     (search needs, search needs, map-more 0 (λ _. relabelled (a .k) (a .p)) (now (a .places)) _ _ _ (search needs) (c .before .before .before .loop .inv .2) (c .moved .ensures))
 
 same-length : tie.Need-same-length Inv-loop μ-loop
 same-length c = search needs
 
-returns : tie.Need-returns Inv-loop μ-loop
-returns c = fill-all _ _ _ _ (omega arith) (c .before .loop .inv .2)
+returns-2 : tie.Need-returns-2 Inv-loop μ-loop
+returns-2 c = fill-all _ _ _ _ (omega arith) (c .before .loop .inv .2)
 
 pub relabel-spec : {M : Type 1} → statement M
 relabel-spec =
@@ -57,6 +63,7 @@ relabel-spec =
     (tie.spec
     Inv-loop
     μ-loop
+    returns
     loop-holds
     mul-moved
     slice-read-moved
@@ -67,4 +74,4 @@ relabel-spec =
     loop-less
     loop-again
     same-length
-    returns)
+    returns-2)
