@@ -1,7 +1,7 @@
--- The same step on rows without the columns of the right half that are still the identity's.
--- In such a column every entry of a row but the diagonal's is the same zero, whose sign the steps may change, and the diagonal's is that zero and one: so the
--- zero stands for all of them. A kept row has 2n + 2 numbers: the left half, the columns of the right half that the steps have filled, in the order of the
--- steps, and after them the row's zero, twice. In step k the n + 2 numbers from column k on count.
+-- The same step (Golub and Van Loan, section 3.4) on rows without the columns of the right half that no step has filled yet.
+-- Such a column is still the identity's, up to the signs of its zeros: a row has the same zero in all of them, and that zero and 1 where the identity has its 1.
+-- So one zero stands for them all. A kept row has 2n + 2 numbers: the left half; the columns of the right half that steps have filled, in the order of the
+-- steps; and after them the row's zero, twice. In step k the n + 2 numbers from column k on count: those before are done with, those behind not made yet.
 use Prim.Native.Nat.{ℕ, _+_, _*_}
 use mathlib.Core.Bool.{cond}
 use mathlib.Core.List.{List}
@@ -15,7 +15,7 @@ use Rattle.numbers.specs.Number.{oneF, _+ᶠ_, _/ᶠ_}
 use Rattle.numbers.specs.Slice.{at}
 use Rattle.elimination.specs.Rows.{onRow, lessRow}
 
--- the numbers of the pivot's row that count, divided by the first: of its two zeros one becomes the diagonal's entry
+-- the numbers of the pivot's row that count, divided by the first: number n, the first of the two zeros, is where the identity has its 1
 unfoldable pub quotients : ℕ → List Float → List Float
 quotients n r = build (n + 2) (λ j. cond (eqb j n) (at r j +ᶠ oneF) (at r j) /ᶠ at r 0)
 

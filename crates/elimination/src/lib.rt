@@ -34,7 +34,7 @@ fn move_part(work: &mut [f64], from: usize, to: usize, m: usize)
     put_row(&mut work[to..end], &row);
 }
 
-// The pivot's row, divided by its first number; number n is the diagonal's, one more than the row's zero.
+// The pivot's row, divided by its first number, with one added to number n, where the identity has its 1.
 fn divide_row(row: &[f64], n: usize, out: &mut [f64])
     requires { ⌜ (length (now row) ≡ n + 2) × (length (now out) ≡ n + 2) ⌝ }
     ensures { λ _. ⌜ now (out .exit) ≡ quotients n (now (row .entry)) ⌝ }

@@ -1,5 +1,5 @@
 -- What the code keeps of the matrix beside the identity, while it is reduced: rows of 2n + 2 numbers (elimination's `Kept`), and the place of each column of the right
--- half. A column that is still the identity's has its one in the row of that place; one that step k filled has place k.
+-- half: of a column that is still the identity's the row that has its 1, and of one that is filled the step that filled it.
 use Prim.Native.Nat.{ℕ, _+_, _*_, _/_, _%_, _≤_, _<_}
 use mathlib.Core.Path.{_≡_}
 use mathlib.Core.Bool.{Bool, true, false, cond}
@@ -18,6 +18,7 @@ use Rattle.inversion.specs.Inversion.{Reduction, rows, singular}
 unfoldable pub startAt : ℕ → List Float → ℕ → ℕ → Float
 startAt n a i j = cond (ltb j n) (at a (i * n + j)) zeroF
 
+-- all rows before it
 unfoldable pub startRows : ℕ → List Float → List Float
 startRows n a = build (n * (2 * n + 2)) (λ z. startAt n a (z / (2 * n + 2)) (z % (2 * n + 2)))
 
@@ -30,13 +31,14 @@ unfoldable pub rightEntry : ℕ → ℕ → List Float → ℕ → ℕ → Float
 rightEntry n k u q i =
     cond (ltb q k) (cell (2 * n + 2) u i (n + q)) (cond (eqb i q) (cell (2 * n + 2) u i (n + k) +ᶠ oneF) (cell (2 * n + 2) u i (n + k)))
 
--- +0, or the NaN that a factor without a finite value makes of it
+-- +0, or the NaN that a factor which is not finite makes of it
 abbrev pub Vacant : Float → Type 0
 Vacant nan = Unit {0}
 Vacant (inf s) = ⊥
 Vacant (fin s m e) = (s ≡ false) × (m ≡ 0) × (e ≡ pos 0)
 
--- before step k the rows u and the places t keep the matrix m
+-- Before step k the rows u and the places t keep the matrix m: its left half from column k on, and each column of its right half by its place. The zero stands
+-- twice, and in rows that have not been the pivot's it is +0 or a NaN.
 pub record Keeps (n k : ℕ) (t : List ℕ) (u m : List Float) : Type 0 where
   pub kept : length u ≡ n * (2 * n + 2)
   pub full : length m ≡ n * (2 * n)

@@ -32,7 +32,7 @@ fn start_rows(a: &[f64], n: usize, work: &mut [f64])
     }
 }
 
-// Every place is its own.
+// Before the first step column c of the right half has its 1 in row c.
 fn number_places(places: &mut [usize])
     ensures { λ _. ⌜ now (places .exit) ≡ build (length (now (places .entry))) (λ c. c) ⌝ }
 {
@@ -42,7 +42,7 @@ fn number_places(places: &mut [usize])
     }
 }
 
-// Where row q goes when rows k and p change places.
+// The place q, when rows k and p change places.
 fn moved(k: usize, p: usize, q: usize) -> usize
     ensures { λ r. ⌜ r ≡ relabelled k p q ⌝ }
 {
@@ -55,6 +55,7 @@ fn moved(k: usize, p: usize, q: usize) -> usize
     q
 }
 
+// The places of all columns, when rows k and p change places.
 fn relabel(places: &mut [usize], k: usize, p: usize)
     ensures { λ _. ⌜ now (places .exit) ≡ build (length (now (places .entry))) (λ c. relabelled k p (getD (now (places .entry)) c 0)) ⌝ }
 {
@@ -106,7 +107,7 @@ fn reduce(a: &[f64], n: usize, limit: f64, work: &mut [f64], places: &mut [usize
     going
 }
 
-// The columns of the right half, each from its place.
+// The right half, each column from its place.
 fn right_halves(work: &[f64], places: &[usize], n: usize, out: &mut [f64])
     requires { ⌜ (n ≤ 16) × (n * (2 * n + 2) ≤ length (now work)) × (length (now places) ≡ n) × ((c : ℕ) → c < n → getD (now places) c 0 < n) × (n * n ≤ length (now out)) ⌝ }
     ensures { λ _. ⌜ now (out .exit) ≡ keptRight n (now (places .entry)) (now (work .entry)) ++ drop (n * n) (now (out .entry)) ⌝ }
