@@ -1,4 +1,6 @@
 // An answer in five words, for callers in C: the number of what is told with the numbers of its header, or 0 with a refusal's N, A and B.
+#![tactic(auto)]
+
 ghost use Rattle.std.specs.Prelude.{◌≡◌, ◌∷◌, [], ◌≤◌, length};
 ghost use Rattle.lists.specs.Build.{over};
 ghost use Rattle.refusal.specs.Values.{code_of};

@@ -1,6 +1,8 @@
 // Tests and choices as calls. Code that is made of them has no branch of its own: it follows its definition line by line, has one return, and its
 // proof puts together what each call ensures. With an `if` for each test every return would have a proof, and what a test showed would be lost
 // where the branches meet.
+#![tactic(auto)]
+
 ghost use Rattle.std.specs.Prelude.{◌≡◌, cond, not, ◌||◌, ◌&&◌, ltb, eqb};
 
 pub fn less(a: usize, b: usize) -> bool

@@ -1,4 +1,6 @@
 // Reading a card: 15 at the lowest place at fault, then 1, then 2.
+#![tactic(auto)]
+
 ghost use Rattle.std.specs.Prelude.{◌≡◌, false};
 ghost use Rattle.card_layout.specs.Limits.{Limited};
 ghost use Rattle.card_layout.specs.Rules.{word0_breaks};

@@ -1,1 +1,3 @@
 // No code: worked readings of cards, as rows of one list.
+#![tactic(auto)]
+

@@ -1,4 +1,6 @@
 // The lowest word at fault in a part of the card. Only words that have a rule are looked at, and of those only the ones that are there.
+#![tactic(auto)]
+
 ghost use Rattle.std.specs.Prelude.{◌≡◌, cond, [], ◌∷◌, ◌^◌, ◌<◌};
 ghost use Rattle.card_layout.specs.Layout.{at_most, sequence, indices, coordinate, faulty, times, sequence_roles, record_roles};
 ghost use Rattle.card_faults.specs.Walk.{walk, first_of, earlier};

@@ -1,4 +1,6 @@
 // The card's layout: the fields of its words, and the rule of each word that has one.
+#![tactic(auto)]
+
 ghost use Rattle.std.specs.Prelude.{◌≡◌, ◌<◌};
 ghost use Rattle.card_layout.specs.Fields.{header_of, coordinate_of, length_of, index_of};
 ghost use Rattle.card_layout.specs.Limits.{up_to, limits_of};

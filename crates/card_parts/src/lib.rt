@@ -1,5 +1,7 @@
 // The parts of a card, read by their places: a record's sequence and counts, a coordinate, the model's names and numbers, the transform. The card has
 // the shape of its header; what follows from that and from the index is not tested again.
+#![tactic(auto)]
+
 ghost use Rattle.std.specs.Prelude.{◌≡◌, ◌++◌, ◌*◌, ◌≤◌, ◌<◌, length, get_or, drop};
 ghost use Rattle.card_places.specs.Shape.{Shaped};
 ghost use Rattle.card_parts.specs.Parts.{sequence_of, Sequence, count_in, coordinate_in};

@@ -1,4 +1,6 @@
 // The place of each thing on a card, and how many words the card has.
+#![tactic(auto)]
+
 ghost use Rattle.std.specs.Prelude.{◌≡◌, ◌+◌, ◌*◌, ◌^◌, ◌≤◌, ◌<◌};
 ghost use Rattle.card_layout.specs.Limits.{Limited};
 ghost use Rattle.card_places.specs.Places.{wanted_words, model_at, model_words, effect_at, gate_name_at, gate_at, after_model, record_words, record_at, index_at, count_at, coordinate_at};

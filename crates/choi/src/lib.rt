@@ -1,4 +1,6 @@
 // The normalized Choi matrix of a transfer matrix, from the terms that are not zero.
+#![tactic(auto)]
+
 ghost use Rattle.std.specs.Prelude.{◌≡◌, true, ◌+◌, ◌*◌, ◌^◌, ◌≤◌, ◌<◌, length};
 ghost use Rattle.lists.specs.Build.{over};
 ghost use Rattle.numbers.specs.Slice.{all_finite};

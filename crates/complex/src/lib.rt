@@ -1,4 +1,6 @@
 // Complex numbers, by value.
+#![tactic(auto)]
+
 ghost use Rattle.std.specs.Prelude.{◌≡◌};
 ghost use Rattle.complex.specs.Arithmetic.{plus, minus, times, scaled, divided, conjugate, min, magnitude, bound};
 

@@ -1,4 +1,6 @@
 // The density matrix nearest to an estimate (kind 2).
+#![tactic(auto)]
+
 ghost use Rattle.std.specs.Prelude.{◌≡◌, ◌*◌, ◌≤◌, ◌<◌, length};
 ghost use Rattle.lists.specs.Build.{over};
 ghost use Rattle.entries.specs.Entries.{entries};

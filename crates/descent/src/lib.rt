@@ -1,5 +1,7 @@
 // The values that a fit passes on from step to step. What a fit is stands in specs/Fit.antt, what every sheet of one says in specs/Claim.antt, and that it does in
 // proofs/Points.antt: none of it depends on how the fit is computed, which is crate `fit`.
+#![tactic(auto)]
+
 use refusal::Refusal;
 
 // The Rust's `GstOptimizerConfig`.

@@ -1,4 +1,6 @@
 // Designs of experiments: the probes that make a process known, and the settings that make a state known.
+#![tactic(auto)]
+
 ghost use Rattle.std.specs.Prelude.{◌≡◌, ◌++◌, ◌+◌, ◌*◌, ◌^◌, ◌≤◌, ◌<◌, length, drop};
 ghost use Rattle.designs.specs.Digit.{digit_of};
 ghost use Rattle.designs.specs.Probes.{local, expectation, probes_of};

@@ -1,4 +1,6 @@
 // The likelihood of a card's records under a model, or under two models in one pass.
+#![tactic(auto)]
+
 ghost use Rattle.std.specs.Prelude.{◌≡◌, ℕ, ◌*◌, ◌≤◌, ◌<◌, length, false};
 ghost use Rattle.lists.specs.Build.{over};
 ghost use Rattle.numbers.specs.Slice.{at};

@@ -1,4 +1,6 @@
 // Eigenvalues and eigenvectors of a Hermitian matrix by classical Jacobi.
+#![tactic(auto)]
+
 ghost use Rattle.std.specs.Prelude.{◌≡◌, ℕ, ◌*◌, ◌≤◌, ◌<◌, length, get_or};
 ghost use Rattle.numbers.specs.Number.{◌*ᶠ◌};
 ghost use Rattle.entries.specs.Entries.{entries, entry_at};

@@ -1,5 +1,7 @@
 // The row operations of Gauss-Jordan elimination. A row is lent as a part of the work slice; a row that another one needs is copied to a local array.
 // They are written once, for every size. The sizes of one and two qubits, 4 and 16, are passed on as constants, so that the compiler unrolls their loops.
+#![tactic(auto)]
+
 ghost use Rattle.std.specs.Prelude.{◌≡◌, ◌++◌, ◌+◌, ◌*◌, ◌≤◌, ◌<◌, length, drop};
 ghost use Rattle.lists.specs.Fold.{fold};
 ghost use Rattle.lists.specs.Part.{part, on_part};

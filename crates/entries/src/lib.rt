@@ -1,4 +1,6 @@
 // Complex matrices in slices of numbers.
+#![tactic(auto)]
+
 ghost use Rattle.std.specs.Prelude.{◌≡◌, ◌+◌, ◌*◌, ◌<◌, length, get_or, set};
 ghost use Rattle.entries.specs.Entries.{entries, entry_at, nowhere};
 

@@ -1,4 +1,6 @@
 // Coordinates evaluated, and the gradient of the objective by finite differences.
+#![tactic(auto)]
+
 ghost use Rattle.std.specs.Prelude.{◌≡◌, ◌*◌, ◌<◌, true, map, length, set};
 ghost use Rattle.numbers.specs.Slice.{at, all_finite};
 ghost use Rattle.model_words.specs.Words.{numbers_of};

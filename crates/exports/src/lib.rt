@@ -1,4 +1,6 @@
 // The entry points for C and Rust: numbers and slices only. include/mintshuttle.h says the same in C's terms.
+#![tactic(auto)]
+
 ghost use Rattle.std.specs.Prelude.{◌≡◌, ◌++◌, ◌≤◌, min, length, drop};
 ghost use Rattle.lists.specs.Build.{build};
 ghost use Rattle.numbers.specs.Slice.{at};

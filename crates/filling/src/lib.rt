@@ -1,4 +1,6 @@
 // Water filling: the probabilities nearest to a list of eigenvalues.
+#![tactic(auto)]
+
 ghost use Rattle.std.specs.Prelude.{◌≡◌, cond, ◌≤◌, length};
 ghost use Rattle.std.specs.Float.Ieee.{lt};
 ghost use Rattle.numbers.specs.Number.{minus_zero_f};

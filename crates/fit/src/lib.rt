@@ -1,4 +1,6 @@
 // The Rust's `reconstruct_gate_set`: steps of descent from the card's model, and the sheet of the point where they end.
+#![tactic(auto)]
+
 ghost use Rattle.std.specs.Prelude.{◌≡◌, map, ℕ, ◌*◌, ◌≤◌, ◌<◌, length, get_or, take};
 ghost use Rattle.numbers.specs.Slice.{at};
 ghost use Rattle.card_places.specs.Shape.{Shaped};

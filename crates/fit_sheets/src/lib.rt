@@ -1,4 +1,6 @@
 // The sheet of a fit, kind 5.
+#![tactic(auto)]
+
 ghost use Rattle.std.specs.Prelude.{◌≡◌, ◌≤◌, ◌++◌, length, drop};
 ghost use Rattle.numbers.specs.Slice.{words_of};
 ghost use Rattle.lists.specs.Build.{over};

@@ -1,5 +1,7 @@
 // Outcome probabilities of a gate sequence. Gates are kept by columns, so that a product adds up columns and vectorises: each number of the state is still the
 // sum of the same products in the same order.
+#![tactic(auto)]
+
 ghost use Rattle.std.specs.Prelude.{◌≡◌, ◌++◌, ◌+◌, ◌*◌, ◌≤◌, ◌<◌, length, drop};
 ghost use Rattle.gate_set.specs.GateSet.{measured, present_of, columns_in, Lying, through_by, probabilities_by};
 

@@ -1,4 +1,6 @@
 // A gauge transform of a model (kind 6): r' = S r, E' = E S^-1, G' = S G S^-1.
+#![tactic(auto)]
+
 ghost use Rattle.std.specs.Prelude.{◌≡◌, ◌*◌, ◌≤◌, ◌<◌, length};
 ghost use Rattle.lists.specs.Build.{over, joined};
 ghost use Rattle.card_places.specs.Shape.{Shaped};

@@ -1,4 +1,6 @@
 // The sheet of a gate set with its records, kind 7.
+#![tactic(auto)]
+
 ghost use Rattle.std.specs.Prelude.{◌≡◌, ℕ, ◌≤◌, ◌<◌, length, true};
 ghost use Rattle.lists.specs.Build.{over};
 ghost use Rattle.card_places.specs.Shape.{Shaped};

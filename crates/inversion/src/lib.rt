@@ -1,4 +1,6 @@
 // The inverse of a real matrix by Gauss-Jordan elimination, on kept rows. The size of two qubits, 16, is passed on as a constant, for the compiler.
+#![tactic(auto)]
+
 ghost use Rattle.std.specs.Prelude.{◌≡◌, ◌++◌, ℕ, ◌+◌, ◌*◌, ◌≤◌, ◌<◌, length, get_or, drop};
 ghost use Rattle.lists.specs.Build.{build, over};
 ghost use Rattle.lists.specs.Fold.{fold};

@@ -1,4 +1,6 @@
 // The library's entries beside the sheets. They ask nothing of their callers, test the lengths of the slices first, and clear the work slice at every exit.
+#![tactic(auto)]
+
 ghost use Rattle.std.specs.Prelude.{◌≡◌, ◌≤◌, ◌<◌, length};
 ghost use Rattle.lists.specs.Build.{over};
 ghost use Rattle.outcome.specs.Outcome.{in_room, Gives, Call};

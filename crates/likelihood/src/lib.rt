@@ -1,4 +1,6 @@
 // The multinomial log-likelihood and deviance of one record: its probabilities are tested, its counts added up, and a term added for each outcome.
+#![tactic(auto)]
+
 ghost use Rattle.std.specs.Prelude.{◌≡◌, ◌≤◌, length};
 ghost use Rattle.numbers.specs.Slice.{at};
 ghost use Rattle.matrix.specs.Product.{sum_of};

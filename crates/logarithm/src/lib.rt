@@ -1,4 +1,6 @@
 // The natural logarithm of a number, in the steps of document 01 over two tables.
+#![tactic(auto)]
+
 ghost use Rattle.std.specs.Prelude.{◌≡◌, ◌<◌, ◌≤◌};
 ghost use Rattle.numbers.specs.Slice.{at};
 ghost use Rattle.logarithm.specs.Steps.{ln_of, ln_by, ln};

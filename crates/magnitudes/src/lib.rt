@@ -1,5 +1,7 @@
 // The pivot of classical Jacobi: the largest magnitude above the diagonal. A square root costs more than all else that is done to an entry, so a bound of each
 // magnitude is kept, and the magnitude itself once the bound did not rule it out.
+#![tactic(auto)]
+
 ghost use Rattle.std.specs.Prelude.{◌≡◌, ◌+◌, ◌*◌, ◌<◌, length};
 ghost use Rattle.entries.specs.Entries.{entries};
 ghost use Rattle.magnitudes.specs.Pivot as spec;

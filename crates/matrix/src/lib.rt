@@ -1,5 +1,7 @@
 // Products of vectors and matrices that lie by rows in slices of numbers. Each is written once, for every size. The sizes of one and two qubits, 4 and 16,
 // are passed on as constants, so that the compiler unrolls their loops and keeps a row in registers.
+#![tactic(auto)]
+
 ghost use Rattle.std.specs.Prelude.{◌≡◌, ◌++◌, ◌+◌, ◌*◌, ◌≤◌, ◌<◌, length, take, drop};
 ghost use Rattle.lists.specs.Build.{build};
 ghost use Rattle.numbers.specs.Number.{minus_zero_f, ◌+ᶠ◌, ◌*ᶠ◌};

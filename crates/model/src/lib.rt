@@ -1,4 +1,6 @@
 // The model of a card of kinds 5 to 7, tested where it lies.
+#![tactic(auto)]
+
 ghost use Rattle.std.specs.Prelude.{◌≡◌, ◌+◌, ◌*◌, ◌≤◌, ◌<◌, length, true, false};
 ghost use Rattle.numbers.specs.Slice.{numbers_at, all_finite};
 ghost use Rattle.card_places.specs.Shape.{Shaped};

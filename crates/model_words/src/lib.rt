@@ -1,4 +1,6 @@
 // A model's numbers, from the card, and its words, as a sheet shows them: the numbers', and between them the gates' names from the card.
+#![tactic(auto)]
+
 ghost use Rattle.std.specs.Prelude.{◌≡◌, ◌+◌, ◌*◌, ◌≤◌, ◌<◌, length};
 ghost use Rattle.lists.specs.Build.{joined, over};
 ghost use Rattle.card_places.specs.Shape.{Shaped};

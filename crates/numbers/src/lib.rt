@@ -1,4 +1,6 @@
 // Words and numbers: a card's words, numbers and their words, and the leaves of document 01 on numbers.
+#![tactic(auto)]
+
 ghost use Rattle.std.specs.Prelude.{◌≡◌, ◌++◌, ℕ, ◌+◌, ◌*◌, ◌%◌, ◌≤◌, ◌<◌, length, get_or, drop};
 ghost use Rattle.std.specs.Int.Bits.{bit_or};
 ghost use Rattle.lists.specs.Build.{build};

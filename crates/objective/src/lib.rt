@@ -1,4 +1,6 @@
 // What a fit makes of its coordinates: the model that has them, the objective, and the norm of a gradient.
+#![tactic(auto)]
+
 ghost use Rattle.std.specs.Prelude.{◌≡◌, map, length};
 ghost use Rattle.numbers.specs.Number.{◌-ᶠ◌, ◌*ᶠ◌};
 ghost use Rattle.numbers.specs.Slice.{at};

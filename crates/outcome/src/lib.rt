@@ -1,4 +1,6 @@
 // What the entry points answer, and the room that they ask for.
+#![tactic(auto)]
+
 ghost use Rattle.std.specs.Prelude.{◌≡◌};
 ghost use Rattle.outcome.specs.Outcome.{roomy, bit_of};
 

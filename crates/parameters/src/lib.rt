@@ -1,4 +1,6 @@
 // The controls and the coordinates of a fit card: read, and tested in the Rust's order.
+#![tactic(auto)]
+
 ghost use Rattle.std.specs.Prelude.{◌≡◌, ◌+◌, ◌*◌, ◌^◌, ◌≤◌, ◌<◌, length};
 ghost use Rattle.lists.specs.Build.{over};
 ghost use Rattle.numbers.specs.Word.{word_at};

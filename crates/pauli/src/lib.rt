@@ -1,4 +1,6 @@
 // Pauli strings, and the linear inversion of their expectations (kind 1).
+#![tactic(auto)]
+
 ghost use Rattle.std.specs.Prelude.{◌≡◌, true, ◌+◌, ◌*◌, ◌^◌, ◌≤◌, ◌<◌, length};
 ghost use Rattle.lists.specs.Build.{over};
 ghost use Rattle.numbers.specs.Number.{finite};

@@ -1,4 +1,6 @@
 // What a transfer matrix says of its process: whether it keeps the trace, and whether it keeps the identity.
+#![tactic(auto)]
+
 ghost use Rattle.std.specs.Prelude.{◌≡◌, ◌*◌, ◌≤◌, ◌<◌, length};
 ghost use Rattle.numbers.specs.Slice.{at};
 ghost use Rattle.physical.specs.Physical.{unit_at, near, near_unit, trace_preserving, unital};

@@ -1,4 +1,6 @@
 // The search for a pivot, and the largest size of a matrix. Sizes are compared without branches on their signs.
+#![tactic(auto)]
+
 ghost use Rattle.std.specs.Prelude.{◌≡◌, cond, ◌+◌, ◌*◌, ◌≤◌, ◌<◌, length};
 ghost use Rattle.std.specs.Float.Ieee.{lt};
 ghost use Rattle.numbers.specs.Slice.{at};

@@ -1,4 +1,6 @@
 // Complete positivity of a process, by the eigenvalues of its normalized Choi matrix.
+#![tactic(auto)]
+
 ghost use Rattle.std.specs.Prelude.{◌≡◌, ◌*◌, ◌^◌, ◌≤◌, ◌<◌, length};
 ghost use Rattle.entries.specs.Entries.{entries};
 ghost use Rattle.eigen.specs.Jacobi.{eigenvalues_of};

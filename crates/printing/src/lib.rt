@@ -1,4 +1,6 @@
 // Sheets, refusals and readings as lines on standard output. What is written is tested, not proved; the number of lines is stated.
+#![tactic(auto)]
+
 ghost use Rattle.std.specs.Prelude.{◌≡◌, ◌+◌, ◌*◌, ◌≤◌, ◌<◌, length};
 ghost use Rattle.printing.specs.Lines.{word_lines, square_lines, entry_lines, fit_lines, lines_of};
 

@@ -1,4 +1,6 @@
 // Refusals, in document 01's sense: the cases of the Rust's `TomographyError`, and those that the card adds. Each has a number N and two values A and B.
+#![tactic(auto)]
+
 ghost use Rattle.std.specs.Prelude.{◌≡◌};
 ghost use Rattle.refusal.specs.Values.{code_of, value_a, value_b};
 ghost use Rattle.refusal.specs.Verdicts.{first_of, finite_or, checked_numbers};

@@ -1,6 +1,8 @@
 // Writes the sheet of each stored card of the file `cards`, the reading of each card of the file `readings`, and the outcome of each library call of the
 // file `calls`. In all three a card or the words of a call stand after a word with their length in bytes. The file `stdout` beside src/ holds the Rust's
 // answers.
+#![tactic(auto)]
+
 ghost use Rattle.std.specs.Prelude.{◌≡◌, ◌+◌, ◌*◌, ◌≤◌, length};
 
 // Room for a card; the `ensures` gives the length alone, which lending a part needs.

@@ -1,4 +1,6 @@
 // The square root of a number, to the nearest number.
+#![tactic(auto)]
+
 ghost use Rattle.std.specs.Prelude.{◌≡◌, ◌+◌, ◌-◌, ◌*◌, ◌/◌, ◌^◌, ◌≤◌, ◌<◌};
 ghost use Rattle.root.specs.Root.{root_of, sqrt};
 ghost use Rattle.root.specs.Search.{Brackets, Found, FromOne};

@@ -1,4 +1,6 @@
 // The trials of one step: the gradient's direction, with a length that is halved until the objective falls.
+#![tactic(auto)]
+
 ghost use Rattle.std.specs.Prelude.{◌≡◌, ◌≤◌, length};
 ghost use Rattle.lists.specs.Build.{build};
 ghost use Rattle.numbers.specs.Number.{◌-ᶠ◌, ◌*ᶠ◌};

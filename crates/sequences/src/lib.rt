@@ -1,4 +1,6 @@
 // A gate sequence over a model that is given in slices: what is tested first, and its probabilities.
+#![tactic(auto)]
+
 ghost use Rattle.std.specs.Prelude.{◌≡◌, false, not, ◌++◌, ◌+◌, ◌*◌, ◌≤◌, ◌<◌, length, take, drop};
 ghost use Rattle.lists.specs.Part.{part};
 ghost use Rattle.numbers.specs.Slice.{all_finite};

@@ -1,4 +1,6 @@
 // Reads a card from standard input, and writes its sheet or its refusal. One byte more than a card may have is read, so that a longer card is seen.
+#![tactic(auto)]
+
 use libc::STDIN_FILENO;
 
 fn main() {

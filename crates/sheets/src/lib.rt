@@ -1,4 +1,6 @@
 // The sheets of kinds 1 to 4 and 6, each of a card of its kind.
+#![tactic(auto)]
+
 ghost use Rattle.std.specs.Prelude.{◌≡◌, List, ℕ, ◌+◌, ◌*◌, ◌^◌, ◌≤◌, length};
 ghost use Rattle.lists.specs.Build.{over};
 ghost use Rattle.numbers.specs.Word.{word_at};

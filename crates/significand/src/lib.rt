@@ -1,4 +1,6 @@
 // The significand and the exponent of a number.
+#![tactic(auto)]
+
 ghost use Rattle.std.specs.Prelude.{◌≡◌};
 ghost use Rattle.significand.specs.Significand.{significand_of, exponent_of};
 

@@ -1,4 +1,6 @@
 // Squares and powers of small whole numbers.
+#![tactic(auto)]
+
 ghost use Rattle.std.specs.Prelude.{◌≡◌, ◌*◌, ◌^◌, ◌≤◌, ◌<◌};
 
 pub fn square(d: usize) -> usize

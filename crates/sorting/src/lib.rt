@@ -1,4 +1,6 @@
 // The stable sort of numbers, rising or falling: their order, as indices, and the sorted numbers.
+#![tactic(auto)]
+
 ghost use Rattle.std.specs.Prelude.{◌≡◌, ◌≤◌, ◌<◌, length, take};
 ghost use Rattle.numbers.specs.Slice.{at};
 ghost use Rattle.sorting.specs.Sort.{before, order_by, sorted_by};

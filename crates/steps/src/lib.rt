@@ -1,4 +1,6 @@
 // The steps of a fit, on a small state that is passed on by value.
+#![tactic(auto)]
+
 ghost use Rattle.std.specs.Prelude.{◌≡◌, ◌≤◌, ◌<◌, length, take};
 ghost use Rattle.objective.specs.Job.{job_by, Lent};
 ghost use Rattle.steps.specs.declared.Status.TheVariants.{Going};

@@ -1,4 +1,6 @@
 // The entry point: the sheet of a card. It asks nothing of its caller, tests the lengths of the slices first, and clears the work slice at every exit.
+#![tactic(auto)]
+
 ghost use Rattle.std.specs.Prelude.{◌≡◌, ◌≤◌, length};
 ghost use Rattle.card.specs.Reading.{read_of};
 ghost use Rattle.card.specs.declared.Reading.TheVariants.{Accepted};

@@ -1,4 +1,6 @@
 // Transfer matrices: the linear inversion of a process, and a transfer matrix applied to expectations.
+#![tactic(auto)]
+
 ghost use Rattle.std.specs.Prelude.{◌≡◌, ◌++◌, ◌*◌, ◌≤◌, ◌<◌, length, drop};
 ghost use Rattle.lists.specs.Build.{over};
 ghost use Rattle.pauli.specs.Density.{vet_of};

@@ -1,4 +1,6 @@
 // A rotation of classical Jacobi, in place: only rows and columns p and q are touched.
+#![tactic(auto)]
+
 ghost use Rattle.std.specs.Prelude.{◌≡◌, ◌+◌, ◌*◌, ◌≤◌, ◌<◌, length};
 ghost use Rattle.entries.specs.Entries.{entries};
 ghost use Rattle.turns.specs.Rotation as spec;
