@@ -41,10 +41,10 @@ eliminated-by n w k r l h e =
     ∙ ap (λ (p : List Float). fold n (eliminated_row p w k) (on_row w k (λ _. divided_row k r) l)) (part-put (k * w) w (divided_row k r) l h (length-divided k r ∙ e)))
 
 -- row i by itself
-abbrev row_step_lem : List Float → ℕ → ℕ → List Float → List Float
-row_step_lem q k i r = cond (eqb i k) r (less_row q (at r k) r)
+abbrev row_step : List Float → ℕ → ℕ → List Float → List Float
+row_step q k i r = cond (eqb i k) r (less_row q (at r k) r)
 
-row_step_lem : (q : List Float) (w k i : ℕ) (l : List Float) → k < w → eliminated_row q w k i l ≡ on_row w i (row_step_lem q k i) l
+row_step_lem : (q : List Float) (w k i : ℕ) (l : List Float) → k < w → eliminated_row q w k i l ≡ on_row w i (row_step q k i) l
 unfolding eliminated_row
 row_step_lem q w k i l kw = go (eqb i k)
   where
@@ -52,7 +52,7 @@ row_step_lem q w k i l kw = go (eqb i k)
     go true = sym (put_same (i * w) w l)
     go false = ap (λ (f : Float). on_row w i (less_row q f) l) (sym (part-entry (i * w) w l k kw))
 
-step_keeps : (q : List Float) (w k i : ℕ) (r : List Float) → length r ≡ w → length (row_step_lem q k i r) ≡ w
+step_keeps : (q : List Float) (w k i : ℕ) (r : List Float) → length r ≡ w → length (row_step q k i r) ≡ w
 step_keeps q w k i r h = go (eqb i k)
   where
     go : (t : Bool) → length (cond t r (less_row q (at r k) r)) ≡ w
@@ -87,14 +87,14 @@ module _ (n w k p : ℕ) (l : List Float) (kn : k < n) (pn : p < n) (kw : k < w)
   unfolding start
   length-start = length-put (k * w) w divided moved (omega (arith, fk, length_moved)) long ∙ length_moved
 
-  cleared-steps : cleared_by n w k p l ≡ fold n (λ i. on_row w i (row_step_lem divided k i)) start
+  cleared-steps : cleared_by n w k p l ≡ fold n (λ i. on_row w i (row_step divided k i)) start
   unfolding cleared_by swapped moved divided start
   cleared-steps =
       sym (eliminated-by n w k (row_of w p l) moved (omega (arith, fk, length_moved)) (length_part (p * w) w l fp))
-      ∙ fold_same (eliminated_row divided w k) (λ i. on_row w i (row_step_lem divided k i)) n start (λ i t _. row_step_lem divided w k i t kw)
+      ∙ fold_same (eliminated_row divided w k) (λ i. on_row w i (row_step divided k i)) n start (λ i t _. row_step_lem divided w k i t kw)
 
   pub length-cleared : length (cleared_by n w k p l) ≡ length l
-  length-cleared = ap length cleared-steps ∙ step-length w (row_step_lem divided k) (step_keeps divided w k) n start (omega (arith, length-start)) ∙ length-start
+  length-cleared = ap length cleared-steps ∙ step-length w (row_step divided k) (step_keeps divided w k) n start (omega (arith, length-start)) ∙ length-start
 
   abbrev quotient : ℕ → Float
   quotient z = cell w l p z /ᶠ cell w l p k
@@ -121,7 +121,7 @@ module _ (n w k p : ℕ) (l : List Float) (kn : k < n) (pn : p < n) (kw : k < w)
   pub cleared-entry : (i z : ℕ) → i < n → z < w → cell w (cleared_by n w k p l) i z ≡ new_entry quotient (cell w l) k p i z
   cleared-entry i z il zw =
       ap (λ (m : List Float). cell w m i z) cleared-steps
-      ∙ step-entry w (row_step_lem divided k) (step_keeps divided w k) n start (omega (arith, length-start)) i z il zw
+      ∙ step-entry w (row_step divided k) (step_keeps divided w k) n start (omega (arith, length-start)) i z il zw
       ∙ go (eqb i k) refl
     where
       go : (t : Bool) → eqb i k ≡ t → at (cond t (row_of w i start) (less_row divided (at (row_of w i start) k) (row_of w i start))) z ≡ cond t (quotient z) (cell w l (before k p i) z -ᶠ cell w l (before k p i) k *ᶠ quotient z)

@@ -11,6 +11,5 @@ returns-then-to-from c =
 
 pub returns : goal.returns
 returns c =
-    let o = c.before.before.before.before.before.before.before.before.before.before.before in
-    let a = o.args in
-    put_back a.to (a.to + a.m) a.m (part a.from a.m a.work.now) _ a.work.now _ refl o.requires.2 (copied a.from a.m a.work.now _ _ o.requires.1 c.copy_row.ensures) c.put_row.ensures
+    let a = c.args in
+    put_back a.to (a.to + a.m) a.m (part a.from a.m a.work.now) _ a.work.now _ refl c.requires.2 (copied a.from a.m a.work.now _ _ c.requires.1 c.copy_row.ensures) c.put_row.ensures

@@ -12,16 +12,14 @@ pub add_rows-requires : goal.add_rows-requires
 add_rows-requires c = (search rules, search rules, search rules, length-take-le _ _ (search rules))
 
 pub slice_bounds-put_row-end : goal.slice_bounds-put_row-end
-slice_bounds-put_row-end c = sym (front-keeps _ _ _ _ c.add_rows.ensures (length-row-mat c.before.before.before.before.before.before.before.before.args.n _ _) (search rules))
+slice_bounds-put_row-end c = sym (front-keeps _ _ _ _ c.add_rows.ensures (length-row-mat c.args.n _ _) (search rules))
 
 pub put_row-requires : goal.put_row-requires
 put_row-requires c =
-    let o = c.before.before.before.before.before.before.before.before in
-    let a = o.args in
-    rw o.requires.1 (front_long a.n _ _ _ c.add_rows.ensures (length-row-mat a.n _ _))
+    let a = c.args in
+    rw c.requires.1 (front_long a.n _ _ _ c.add_rows.ensures (length-row-mat a.n _ _))
 
 pub returns : goal.returns
 returns c =
-    let o = c.before.before.before.before.before.before.before.before.before.before.before in
-    let a = o.args in
-    front-put a.n _ _ _ c.add_rows.ensures (length-row-mat a.n _ _) _ _ o.requires.1 c.put_row.ensures
+    let a = c.args in
+    front-put a.n _ _ _ c.add_rows.ensures (length-row-mat a.n _ _) _ _ c.requires.1 c.put_row.ensures

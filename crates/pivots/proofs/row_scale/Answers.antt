@@ -14,7 +14,7 @@ loop-k-init c = (search rules, search rules, fold-none _ _, tt)
 pub loop-k-preserved : goal.loop-k-preserved
 loop-k-preserved c =
     let l = c.loop-k in
-    let e = next-scale l.s (at c.args.row.now l.k) _ _ l.invariant.3 c.type_size.ensures c.larger-s.ensures in
+    let e = next-scale l.s (at c.args.row.now l.k) _ _ l.invariant.3 c.size_of.ensures c.larger-s.ensures in
     (search rules, search rules, fold_more _ _ _ _ _ l.invariant.2 e.0, e.1)
 
 pub returns : goal.returns

@@ -17,4 +17,4 @@ bounds-work-i c =
     omega (arith, entry-fits a.i a.k a.n a.w c.requires.1 c.requires.0)
 
 pub returns : goal.returns
-returns c = c.type_size.ensures
+returns c = c.size_of.ensures
