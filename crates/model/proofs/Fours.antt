@@ -53,11 +53,11 @@ module _ (s : List ℕ) (p : ℕ) {w : ℕ} {r : Bool} (e : w ≡ word_at s p) (
   of_word : finite (number_at s p) ≡ r
   of_word = sym (f ∙ ap (λ (x : ℕ). finite (number x)) e)
 
-  pub word-not-finite : not r ≡ true → finite (number_at s p) ≡ false
-  word-not-finite h = of_word ∙ not-true r h
+  pub word-not-finite : r ≡ false → finite (number_at s p) ≡ false
+  word-not-finite h = of_word ∙ h
 
-  pub word-finite : not r ≡ false → finite (number_at s p) ≡ true
-  word-finite h = of_word ∙ not-false r h
+  pub word-finite : r ≡ true → finite (number_at s p) ≡ true
+  word-finite h = of_word ∙ h
 
   pub word-tested : r ≡ finite (number_at s p)
   word-tested = sym of_word
