@@ -2,7 +2,6 @@ use mathlib.Core.Path.{ap, ap₂}
 use native.Mathlib.Omega.{arith}
 use Prim.Native.Nat.{ℕ}
 use lib.Dec.{eqb}
-use Rattle.card_parts.specs.Model.{name_of}
 use Rattle.model.proofs.Tests.{any_none, any-more, any-end}
 use borrow.Author.Rules.{rules}
 use Rattle.model.proofs.bad_name.Goals as goal

@@ -1,6 +1,5 @@
 use mathlib.Core.Path.{refl}
 use native.Mathlib.Omega.{arith}
-use Rattle.model.specs.Checked.{bad_name}
 use Rattle.model.proofs.Tests.{any_none, any-more, any-end}
 use borrow.Author.Rules.{rules}
 use Rattle.model.proofs.bad_names.Goals as goal
