@@ -9,7 +9,7 @@ ghost use Rattle.card_layout.specs.Rules.{past, word0_breaks, qubits_break, sequ
 use booleans::{both, either, less, nonzero, opposite, pick, same};
 
 // The fields of word 0.
-#[derive(Drop)]
+#[derive(Clone, Copy)]
 pub struct Header {
     pub kind: usize,
     pub qubits: usize,

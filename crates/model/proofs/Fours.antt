@@ -1,11 +1,10 @@
 -- Runs of a card's numbers, tested part by part. Assumes nothing.
 use Prim.Native.Nat.{ℕ, ◌+◌, ◌-◌, ◌≤◌}
 use mathlib.Core.Path.{◌≡◌, refl, sym, ap, ◌∙◌}
-use mathlib.Core.Bool.{Bool, true, false, not, ◌&&◌}
+use mathlib.Core.Bool.{Bool, true, false, ◌&&◌}
 use mathlib.Core.List.{List, [], ◌∷◌, ◌++◌}
 use native.Mathlib.Nat.{add-zero, add_assoc}
 use native.Mathlib.Omega.{arith}
-use borrow.Author.Tests.{not-true, not-false}
 use lib.Ieee.{Float}
 use Rattle.booleans.proofs.Joined.{and-true, and_assoc, and_no}
 use Rattle.lists.specs.Build.{from, build}
@@ -53,11 +52,11 @@ module _ (s : List ℕ) (p : ℕ) {w : ℕ} {r : Bool} (e : w ≡ word_at s p) (
   of_word : finite (number_at s p) ≡ r
   of_word = sym (f ∙ ap (λ (x : ℕ). finite (number x)) e)
 
-  pub word-not-finite : not r ≡ true → finite (number_at s p) ≡ false
-  word-not-finite h = of_word ∙ not-true r h
+  pub word-not-finite : r ≡ false → finite (number_at s p) ≡ false
+  word-not-finite h = of_word ∙ h
 
-  pub word-finite : not r ≡ false → finite (number_at s p) ≡ true
-  word-finite h = of_word ∙ not-false r h
+  pub word-finite : r ≡ true → finite (number_at s p) ≡ true
+  word-finite h = of_word ∙ h
 
   pub word-tested : r ≡ finite (number_at s p)
   word-tested = sym of_word

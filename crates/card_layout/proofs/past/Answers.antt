@@ -1,0 +1,6 @@
+use Rattle.card_layout.specs.Rules.{past}
+use Rattle.card_layout.proofs.past.Goals as goal
+
+pub returns : goal.returns
+unfolding past
+returns c = cc

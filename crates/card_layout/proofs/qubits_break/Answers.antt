@@ -1,0 +1,6 @@
+use Rattle.card_layout.specs.Rules.{qubits_break}
+use Rattle.card_layout.proofs.qubits_break.Goals as goal
+
+pub returns : goal.returns
+unfolding qubits_break
+returns c = cc
