@@ -1,0 +1,12 @@
+use Rattle.card_layout.specs.Layout.{coordinate}
+use Rattle.card_layout.specs.Layout.{breaks}
+use Rattle.card_faults.proofs.Walking.{absent, there}
+use borrow.Author.Rules.{rules}
+use Rattle.card_faults.proofs.coordinate_faulty.Goals as goal
+
+pub returns-then-p-card : goal.returns-then-p-card
+unfolding breaks
+returns-then-p-card c = there _ _ coordinate (search rules) (cc)
+
+pub returns : goal.returns
+returns c = absent _ _ _ (search rules)
