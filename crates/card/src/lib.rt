@@ -16,7 +16,7 @@ use numbers::word_at;
 use refusal::Refusal;
 use sizes::{four_to, square};
 
-#[derive(Drop)]
+#[derive(Clone, Copy)]
 pub enum Reading {
     Refused(Refusal),
     Accepted(Header),

@@ -9,7 +9,7 @@ use card_layout::{coordinate_breaks, coordinate_of, indices_break, length_of, se
 use numbers::word_at;
 
 // The place of a word at fault.
-#[derive(Drop)]
+#[derive(Clone, Copy)]
 pub enum Fault {
     At(usize),
     Nothing,

@@ -22,7 +22,7 @@ pub struct Header {
 }
 
 // The fields of a coordinate: `which` is the outcome or the gate, `column` the index or the column.
-#[derive(Drop)]
+#[derive(Clone, Copy)]
 pub struct Coordinate {
     pub kind: usize,
     pub which: usize,

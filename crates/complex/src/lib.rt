@@ -4,7 +4,7 @@
 ghost use Rattle.std.specs.Prelude.{◌≡◌};
 ghost use Rattle.complex.specs.Arithmetic.{plus, minus, times, scaled, divided, conjugate, min, magnitude, bound};
 
-#[derive(Drop)]
+#[derive(Clone, Copy)]
 pub struct Complex {
     pub re: f64,
     pub im: f64,

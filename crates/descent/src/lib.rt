@@ -5,7 +5,7 @@
 use refusal::Refusal;
 
 // The Rust's `GstOptimizerConfig`.
-#[derive(Drop)]
+#[derive(Clone, Copy)]
 pub struct GstOptimizerConfig {
     pub max_iterations: u64,
     pub initial_step: f64,
@@ -18,7 +18,7 @@ pub struct GstOptimizerConfig {
 }
 
 // The Rust's `GstTermination`.
-#[derive(Drop)]
+#[derive(Clone, Copy)]
 pub enum GstTermination {
     GradientTolerance,
     ObjectiveTolerance,
@@ -27,7 +27,7 @@ pub enum GstTermination {
 }
 
 // Coordinates evaluated: their objective; passed over, since the probabilities fail; or the whole fit refused.
-#[derive(Drop)]
+#[derive(Clone, Copy)]
 pub enum Evaluated {
     Value(f64),
     Passed,
@@ -35,14 +35,14 @@ pub enum Evaluated {
 }
 
 // A derivative, or why the fit is refused.
-#[derive(Drop)]
+#[derive(Clone, Copy)]
 pub enum Derivative {
     Slope(f64),
     Unusable(Refusal),
 }
 
 // A search among trials: none accepted so far; the number of the accepted one and its objective; or the whole fit refused.
-#[derive(Drop)]
+#[derive(Clone, Copy)]
 pub enum Search {
     Searching,
     Found(u64, f64),

@@ -229,7 +229,7 @@ pub fn fit_diagnostics(
 }
 
 // The likelihoods of two models.
-#[derive(Drop)]
+#[derive(Clone, Copy)]
 pub struct Both {
     pub first: Likelihood,
     pub second: Likelihood,

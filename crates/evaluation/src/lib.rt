@@ -57,7 +57,7 @@ pub fn evaluate(
 }
 
 // The probes on both sides of a point, evaluated.
-#[derive(Drop)]
+#[derive(Clone, Copy)]
 struct Probes {
     right: Evaluated,
     left: Evaluated,

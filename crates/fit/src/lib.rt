@@ -21,7 +21,7 @@ use refusal::Refusal;
 use steps::{Running, Slope, Status, room, run, slope_at};
 
 // What a sheet shows of a fit beside its model.
-#[derive(Drop)]
+#[derive(Clone, Copy)]
 pub struct Shown {
     pub stop: GstTermination,
     pub steps: u64,
@@ -32,7 +32,7 @@ pub struct Shown {
     pub norm: f64,
 }
 
-#[derive(Drop)]
+#[derive(Clone, Copy)]
 pub enum Fitting {
     Fitted(Shown),
     Refused(Refusal),

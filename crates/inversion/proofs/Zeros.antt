@@ -1,7 +1,7 @@
 -- Zeros that a step leaves zeros, up to their sign and to a NaN. Assumes nothing.
 use mathlib.Core.Path.{◌≡◌, refl, sym, ◌∙◌, ap, subst}
 use mathlib.Core.Bool.{Bool, true, false, cond}
-use Prim.Native.Nat.{ℕ, zero, ◌+◌, ◌*◌, ◌<◌}
+use Prim.Native.Nat.{ℕ, ◌*◌, ◌<◌}
 use native.Mathlib.Nat.{zero-mul, mul-zero, mul-pos, zero-lt-suc}
 use lib.IntN.{ℤ, pos}
 use lib.Dec.{eqb}

@@ -10,14 +10,14 @@ ghost use Rattle.likelihood.specs.Multinomial as spec;
 use refusal::Refusal;
 
 // The Rust's `FitDiagnostics`.
-#[derive(Drop)]
+#[derive(Clone, Copy)]
 pub struct Diagnostics {
     pub log_likelihood: f64,
     pub deviance: f64,
 }
 
 // The diagnostics of a model; that its probabilities fail, which a fit's trial may; or another refusal.
-#[derive(Drop)]
+#[derive(Clone, Copy)]
 pub enum Likelihood {
     Fit(Diagnostics),
     Failed,
@@ -25,7 +25,7 @@ pub enum Likelihood {
 }
 
 // Counts added up, or that the sum is 2^64 or more.
-#[derive(Drop)]
+#[derive(Clone, Copy)]
 pub enum Total {
     Counted(u64),
     TooMany,

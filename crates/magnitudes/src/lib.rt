@@ -9,7 +9,7 @@ ghost use Rattle.magnitudes.specs.Notes.{notes, found, widened, noted, noted_cro
 
 use complex::Complex;
 
-#[derive(Drop)]
+#[derive(Clone, Copy)]
 pub struct Pivot {
     pub best: f64,
     pub p: usize,

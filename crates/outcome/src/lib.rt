@@ -7,7 +7,7 @@ ghost use Rattle.outcome.specs.Outcome.{roomy, bit_of};
 use refusal::Refusal;
 
 // The header of a sheet, what an entry of the library tells, or a refusal. There is a case for each that is built.
-#[derive(Drop)]
+#[derive(Clone, Copy)]
 pub enum Answer {
     Density {
         dimension: u64,

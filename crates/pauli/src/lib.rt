@@ -12,7 +12,7 @@ use refusal::{Refusal, Verdict};
 use sizes::two_to;
 
 // The one entry of a string's row that is not zero: its column, and the power of i, 0 to 3, that it is.
-#[derive(Drop)]
+#[derive(Clone, Copy)]
 pub struct Filled {
     pub column: usize,
     pub power: usize,

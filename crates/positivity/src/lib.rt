@@ -13,7 +13,7 @@ use refusal::{Refusal, Verdict};
 use sizes::{four_to, square};
 
 // Whether a process is completely positive, or why that is not said.
-#[derive(Drop)]
+#[derive(Clone, Copy)]
 pub enum Positivity {
     Known(bool),
     Refused(Refusal),

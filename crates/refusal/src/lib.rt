@@ -5,7 +5,7 @@ ghost use Rattle.std.specs.Prelude.{◌≡◌};
 ghost use Rattle.refusal.specs.Values.{code_of, value_a, value_b};
 ghost use Rattle.refusal.specs.Verdicts.{first_of, finite_or, checked_numbers};
 
-#[derive(Drop)]
+#[derive(Clone, Copy)]
 pub enum Refusal {
     InvalidQubits,
     // Words or values wanted, and found.
@@ -33,7 +33,7 @@ pub enum Refusal {
 }
 
 // What the tests of something find: nothing amiss, or a refusal.
-#[derive(Drop)]
+#[derive(Clone, Copy)]
 pub enum Verdict {
     Good,
     Refused(Refusal),

@@ -17,7 +17,7 @@ fn middle(p: u64) -> u64
     a * a * 4 + mid / 16777216
 }
 
-#[derive(Drop)]
+#[derive(Clone, Copy)]
 struct Bracket {
     lo: u64,
     hi: u64,

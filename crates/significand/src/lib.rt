@@ -5,7 +5,7 @@ ghost use Rattle.std.specs.Prelude.{◌≡◌};
 ghost use Rattle.significand.specs.Significand.{significand_of, exponent_of};
 
 // M and e + 1074 of document 01: a finite number is M · 2^(e - 52) in size, with 2^52 ≤ M < 2^53.
-#[derive(Drop)]
+#[derive(Clone, Copy)]
 pub struct Parts {
     pub significand: u64,
     pub exponent: u64,

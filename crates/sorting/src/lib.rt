@@ -7,7 +7,7 @@ ghost use Rattle.sorting.specs.Sort.{before, order_by, sorted_by};
 ghost use Rattle.sorting.specs.Steps.{shift, shifted, inserted};
 
 // The index in hand, and whether the number to insert is put down.
-#[derive(Drop)]
+#[derive(Clone, Copy)]
 pub struct Hand {
     pub index: usize,
     pub down: bool,

@@ -14,7 +14,7 @@ use objective::norm;
 use refusal::{Refusal, Verdict};
 use search::search;
 
-#[derive(Drop)]
+#[derive(Clone, Copy)]
 pub enum Status {
     Going,
     Stopped(GstTermination),
@@ -22,7 +22,7 @@ pub enum Status {
 }
 
 // A running fit. Its first numbers are the coordinates'; `norm` is that of the last gradient.
-#[derive(Drop)]
+#[derive(Clone, Copy)]
 pub struct Running {
     pub coordinates: [f64; 64],
     pub objective: f64,
@@ -33,7 +33,7 @@ pub struct Running {
 }
 
 // What a point's gradient gives: its norm, or why it is unusable.
-#[derive(Drop)]
+#[derive(Clone, Copy)]
 pub enum Slope {
     Norm(f64),
     Unusable(Refusal),

@@ -9,7 +9,7 @@ ghost use Rattle.turns.specs.Steps.{row_turned, mirrored_one, mirrored, crossed}
 use complex::Complex;
 use magnitudes::Pivot;
 
-#[derive(Drop)]
+#[derive(Clone, Copy)]
 pub struct Turn {
     pub p: usize,
     pub q: usize,

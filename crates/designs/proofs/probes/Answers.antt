@@ -1,7 +1,7 @@
 use Rattle.designs.proofs.Sizes.{square}
 use native.Mathlib.Omega.{arith}
 use Rattle.lists.proofs.Filling.{fill_none, fill_more, fill_end}
-use Rattle.designs.specs.Probes.{expectation, probes_of}
+use Rattle.designs.specs.Probes.{probes_of}
 use borrow.Author.Rules.{rules}
 use Rattle.designs.proofs.probes.Goals as goal
 

@@ -1,0 +1,13 @@
+use Prim.Native.Nat.{◌≤◌, ◌-◌}
+use mathlib.Core.Path.{◌≡◌}
+use lib.ListN.{length}
+use Rattle.lists.specs.Fold.{fold}
+use Rattle.entries.specs.Entries.{entries}
+use Rattle.magnitudes.specs.Notes.{notes, noted}
+use Rattle.magnitudes.proofs.measure.Given as goal
+
+abbrev pub invariant-loop-k : goal.invariant-loop-k
+invariant-loop-k l = (l.k ≤ l.end) × (length l.bounds ≡ length l.initial.bounds) × (length l.sizes ≡ length l.initial.sizes) × (notes l.bounds l.sizes ≡ fold l.k (noted (entries l.a)) (notes l.initial.bounds l.initial.sizes))
+
+abbrev pub decreases-loop-k : goal.decreases-loop-k
+decreases-loop-k l = l.end - l.k
