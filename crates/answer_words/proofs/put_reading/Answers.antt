@@ -2,16 +2,10 @@ use Rattle.answer_words.proofs.Words.{in-case}
 use Rattle.answer_words.specs.Words.{reading_code, reading_words}
 use Rattle.answer_words.proofs.put_reading.Goals as goal
 
-pub shape_of-out-in-Accepted : goal.shape_of-out-in-Accepted
-shape_of-out-in-Accepted c = c.out-1.given
-
 pub returns-in-Accepted : goal.returns-in-Accepted
 returns-in-Accepted c =
     let put-header = c.put_header.ensures in
     in-case reading_code reading_words c.args.out.now c.in-Accepted.is put-header.0 put-header.1
-
-pub shape_of-out-in-Refused : goal.shape_of-out-in-Refused
-shape_of-out-in-Refused c = c.out-in-Refused-1.given
 
 pub returns-in-Refused : goal.returns-in-Refused
 returns-in-Refused c =

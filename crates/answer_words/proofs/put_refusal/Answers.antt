@@ -1,9 +1,6 @@
 use mathlib.Core.Path.{◌∙◌}
 use Rattle.answer_words.proofs.put_refusal.Goals as goal
 
-pub shape_of-out : goal.shape_of-out
-shape_of-out c = c.out-1.given
-
 pub returns : goal.returns
 returns c =
     let code = c.code-n.ensures in
