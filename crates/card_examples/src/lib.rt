@@ -1,3 +1,2 @@
 // No code: worked readings of cards, as rows of one list.
 #![tactic(auto)]
-

@@ -16,18 +16,6 @@ pub measure-requires-2 : goal.measure-requires-2
 measure-requires-2 c =
     rw (c.run_both.auto.y ∙ c.put_row-2.auto.row ∙ c.requires.9) (c.requires.0, c.requires.1, c.requires.3, c.requires.5)
 
-pub shape_of-x : goal.shape_of-x
-shape_of-x c = c.x-2-1.given ∙ c.x-1.given
-
-pub shape_of-y : goal.shape_of-y
-shape_of-y c = c.y-2-1.given ∙ c.y-1.given
-
-pub shape_of-out : goal.shape_of-out
-shape_of-out c = c.out-1.given
-
-pub shape_of-also : goal.shape_of-also
-shape_of-also c = c.also-1.given
-
 pub returns : goal.returns
 returns c =
     let a = c.args in

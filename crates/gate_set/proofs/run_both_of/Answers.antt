@@ -53,7 +53,7 @@ pub loop-k-preserved : goal.loop-k-preserved
 loop-k-preserved c =
     let a = c.args in
     let l = c.loop-k in
-    (add-one-le c.loop-k-test.true, c.x-1.given ∙ l.invariant.1, c.y-1.given ∙ l.invariant.2, gate-more a.d a.columns.now a.sequence.now l.k a.x.now l.x _ l.invariant.3 c.row_times.ensures, gate-more a.d a.others.now a.sequence.now l.k a.y.now l.y _ l.invariant.4 c.row_times-in-loop-k.ensures)
+    (add-one-le c.loop-k-test.true, omega arith, omega arith, gate-more a.d a.columns.now a.sequence.now l.k a.x.now l.x _ l.invariant.3 c.row_times.ensures, gate-more a.d a.others.now a.sequence.now l.k a.y.now l.y _ l.invariant.4 c.row_times-in-loop-k.ensures)
 
 pub shape_of-x : goal.shape_of-x
 shape_of-x c = c.loop-k.invariant.1 ∙ sym c.requires.1

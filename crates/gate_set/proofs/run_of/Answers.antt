@@ -40,7 +40,7 @@ pub loop-k-preserved : goal.loop-k-preserved
 loop-k-preserved c =
     let a = c.args in
     let l = c.loop-k in
-    (add-one-le c.loop-k-test.true, c.x-1.given ∙ l.invariant.1, gate-more a.d a.columns.now a.sequence.now l.k a.x.now l.x _ l.invariant.2 c.row_times.ensures)
+    (add-one-le c.loop-k-test.true, omega arith, gate-more a.d a.columns.now a.sequence.now l.k a.x.now l.x _ l.invariant.2 c.row_times.ensures)
 
 pub shape_of-x : goal.shape_of-x
 shape_of-x c = c.loop-k.invariant.1 ∙ sym c.requires.1

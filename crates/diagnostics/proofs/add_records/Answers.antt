@@ -1,0 +1,42 @@
+use Prim.Native.Nat.{zero-le}
+use mathlib.Core.Path.{refl, ◌∙◌}
+use Rattle.lists.proofs.Folding.{fold-none, fold_more, fold_end}
+use Rattle.diagnostics.specs.Diagnostics.{likelihood_by}
+use Rattle.diagnostics.proofs.Rooms.{room-on, record-fits}
+use Rattle.diagnostics.proofs.Turns.{turn_last}
+use native.Mathlib.Numerals.{add-one-dec, add-one-le}
+use Rattle.diagnostics.proofs.add_records.Goals as goal
+
+pub loop-r-init : goal.loop-r-init
+loop-r-init c = (zero-le, refl, refl, refl, fold-none _ _)
+
+pub record_onward-l-requires : goal.record_onward-l-requires
+record_onward-l-requires c =
+    let s = c.requires in
+    let v = c.loop-r.invariant in
+    (s.0, s.1 _ c.loop-r-test.true, s.2, room-on _ _ _ s.3 v.1, room-on _ _ _ s.4 v.2, room-on _ _ _ s.5 v.3)
+
+pub overflow_step-r : goal.overflow_step-r
+overflow_step-r c = record-fits _ _ c.loop-r-test.true c.requires.0.limits.records
+
+pub loop-r-smaller : goal.loop-r-smaller
+loop-r-smaller c = add-one-dec _ _ c.loop-r-test.true
+
+pub loop-r-preserved : goal.loop-r-preserved
+loop-r-preserved c =
+    let record-onward = c.record_onward-l in
+    let v = c.loop-r.invariant in
+    (add-one-le c.loop-r-test.true, record-onward.auto.sequence ∙ v.1, record-onward.auto.counts ∙ v.2, record-onward.auto.ps ∙ v.3, fold_more _ _ _ _ _ v.4 record-onward.ensures)
+
+pub shape_of-sequence : goal.shape_of-sequence
+shape_of-sequence c = c.loop-r.invariant.1
+
+pub shape_of-counts : goal.shape_of-counts
+shape_of-counts c = c.loop-r.invariant.2
+
+pub shape_of-ps : goal.shape_of-ps
+shape_of-ps c = c.loop-r.invariant.3
+
+pub returns : goal.returns
+unfolding likelihood_by
+returns c = fold_end _ _ _ _ _ (turn_last _ _ _ c.loop-r-test.false c.loop-r.invariant.0 refl) c.loop-r.invariant.4

@@ -1,0 +1,14 @@
+use native.Mathlib.Omega.{arith}
+use Rattle.lists.proofs.Filling.{fill_none, fill_more}
+use Rattle.diagnostics.proofs.Loading.{sequence-end}
+use borrow.Author.Rules.{rules}
+use Rattle.diagnostics.proofs.load_sequence.Goals as goal
+
+pub loop-k-init : goal.loop-k-init
+loop-k-init c = (search rules, search rules, fill_none _ _)
+
+pub loop-k-preserved : goal.loop-k-preserved
+loop-k-preserved c = (search rules, search rules, fill_more _ _ _ _ _ (search rules) c.loop-k.invariant.2 c.gate_in.ensures.0)
+
+pub returns : goal.returns
+returns c = sequence-end _ _ _ _ _ _ (omega arith) c.loop-k.invariant.2
