@@ -1,7 +1,11 @@
-// Sheets, refusals and readings as lines of an output. What is written is tested, not proved; the number of lines is stated.
+// Sheets, refusals and readings as lines of an output. What is written is stated byte for byte, for each writer whose bytes a contract can name.
 #![tactic(auto)]
 
-ghost use Rattle.std.specs.Prelude.{◌≡◌, ◌+◌, ◌*◌, ◌≤◌, ◌<◌, length};
+ghost use Rattle.std.specs.Prelude.{◌≡◌, ◌+◌, ◌*◌, ◌≤◌, ◌<◌, ◌++◌, ◌∷◌, [], length, codes};
+ghost use Rattle.std.specs.Fmt.{decimal};
+ghost use Rattle.lists.specs.Build.{build};
+ghost use Rattle.printing.specs.Outputs.{Writes};
+ghost use Rattle.printing.specs.Text.{lines_text, word_text, header_line, refusal_line, tests_line, fit_line, word_line, entry_line, words_shown, square_shown, entries_shown, fit_shown, sheet_lines, reading_lines};
 ghost use Rattle.printing.specs.Lines.{word_lines, square_lines, entry_lines, fit_lines, lines_of};
 
 use card::Reading;
@@ -13,22 +17,29 @@ mod output;
 
 pub use output::Output;
 
-fn print_number<W: Write>(out: &mut Output<W>, n: u64, end: &str) {
+fn print_number<W: Write>(out: &mut Output<W>, n: u64, end: &str)
+    ensures { Writes W.contents out.old out.new (decimal n ++ end.now) }
+{
     write!(out, "{n}{end}");
 }
 
 // 16 digits, whatever the word.
-fn print_word<W: Write>(out: &mut Output<W>, w: u64, end: &str) {
+fn print_word<W: Write>(out: &mut Output<W>, w: u64, end: &str)
+    ensures { Writes W.contents out.old out.new (word_text w ++ end.now) }
+{
     write!(out, "{w:016x}{end}");
 }
 
-fn print_header<W: Write>(out: &mut Output<W>, name: &str, n: u64) {
+fn print_header<W: Write>(out: &mut Output<W>, name: &str, n: u64)
+    ensures { Writes W.contents out.old out.new (header_line name.now n ++ 10 ∷ []) }
+{
     writeln!(out, "{name} {n}");
 }
 
 // `refused N A B`: one line.
 pub fn print_refusal<W: Write>(out: &mut Output<W>, r: Refusal) -> usize
-    ensures { result ≡ 1 }
+    ensures lines { result ≡ 1 }
+    ensures text { Writes W.contents out.old out.new (refusal_line r ++ 10 ∷ []) }
 {
     write!(out, "refused ");
     print_number(out, refusal::code(r), " ");
@@ -40,6 +51,7 @@ pub fn print_refusal<W: Write>(out: &mut Output<W>, r: Refusal) -> usize
 // Entry i of a matrix: its real and its imaginary part.
 fn print_entry<W: Write>(out: &mut Output<W>, res: &[u64], i: usize)
     requires { 2 * i + 1 < length res.now }
+    ensures { Writes W.contents out.old out.new (entry_line res.now i ++ 10 ∷ []) }
 {
     print_word(out, res[2 * i], " ");
     print_word(out, res[2 * i + 1], "\n");
@@ -47,15 +59,17 @@ fn print_entry<W: Write>(out: &mut Output<W>, res: &[u64], i: usize)
 
 fn print_entries<W: Write>(out: &mut Output<W>, res: &[u64], count: usize)
     requires { 2 * count ≤ length res.now }
+    ensures { Writes W.contents out.old out.new (lines_text (build count (entry_line res.now))) }
 {
     for i in 0..count {
         print_entry(out, res, i);
     }
 }
 
-// A header, and a matrix of d rows where the result holds it; how many lines were written.
+// A header, and a matrix of d rows where the result holds it; how many lines that is.
 fn print_matrix<W: Write>(out: &mut Output<W>, name: &str, d: u64, res: &[u64]) -> usize
-    ensures { result ≡ entry_lines d (length res.now) }
+    ensures lines { result ≡ entry_lines d (length res.now) }
+    ensures text { Writes W.contents out.old out.new (lines_text (header_line name.now d ∷ entries_shown d res.now)) }
 {
     print_header(out, name, d);
     if 64 < d {
@@ -71,6 +85,7 @@ fn print_matrix<W: Write>(out: &mut Output<W>, name: &str, d: u64, res: &[u64]) 
 
 fn print_words<W: Write>(out: &mut Output<W>, res: &[u64], count: usize)
     requires { count ≤ length res.now }
+    ensures { Writes W.contents out.old out.new (lines_text (build count (word_line res.now))) }
 {
     for i in 0..count {
         print_word(out, res[i], "\n");
@@ -79,7 +94,8 @@ fn print_words<W: Write>(out: &mut Output<W>, res: &[u64], count: usize)
 
 // After a header, so many words, one a line, where the result holds them; how many lines there are then.
 fn print_body<W: Write>(out: &mut Output<W>, count: u64, res: &[u64]) -> usize
-    ensures { result ≡ word_lines count (length res.now) }
+    ensures lines { result ≡ word_lines count (length res.now) }
+    ensures text { Writes W.contents out.old out.new (lines_text (words_shown count res.now)) }
 {
     let n = count as usize;
     if res.len() < n {
@@ -91,7 +107,8 @@ fn print_body<W: Write>(out: &mut Output<W>, count: u64, res: &[u64]) -> usize
 
 // A header, and as many words as it says.
 fn print_list<W: Write>(out: &mut Output<W>, name: &str, count: u64, res: &[u64]) -> usize
-    ensures { result ≡ word_lines count (length res.now) }
+    ensures lines { result ≡ word_lines count (length res.now) }
+    ensures text { Writes W.contents out.old out.new (lines_text (header_line name.now count ∷ words_shown count res.now)) }
 {
     print_header(out, name, count);
     print_body(out, count, res)
@@ -99,7 +116,8 @@ fn print_list<W: Write>(out: &mut Output<W>, name: &str, count: u64, res: &[u64]
 
 // A header, and a matrix of p rows, one word a line.
 fn print_square<W: Write>(out: &mut Output<W>, name: &str, p: u64, res: &[u64]) -> usize
-    ensures { result ≡ square_lines p (length res.now) }
+    ensures lines { result ≡ square_lines p (length res.now) }
+    ensures text { Writes W.contents out.old out.new (lines_text (header_line name.now p ∷ square_shown p res.now)) }
 {
     print_header(out, name, p);
     if 64 < p {
@@ -110,7 +128,8 @@ fn print_square<W: Write>(out: &mut Output<W>, name: &str, p: u64, res: &[u64]) 
 
 // `diagnostics`, and two words.
 fn print_diagnostics<W: Write>(out: &mut Output<W>, res: &[u64]) -> usize
-    ensures { result ≡ word_lines 2 (length res.now) }
+    ensures lines { result ≡ word_lines 2 (length res.now) }
+    ensures text { Writes W.contents out.old out.new (lines_text (codes "diagnostics" ∷ words_shown 2 res.now)) }
 {
     writeln!(out, "diagnostics");
     print_body(out, 2, res)
@@ -118,7 +137,8 @@ fn print_diagnostics<W: Write>(out: &mut Output<W>, res: &[u64]) -> usize
 
 // `physical T U C`: one line.
 fn print_tests<W: Write>(out: &mut Output<W>, t: bool, u: bool, c: bool) -> usize
-    ensures { result ≡ 1 }
+    ensures lines { result ≡ 1 }
+    ensures text { Writes W.contents out.old out.new (tests_line t u c ++ 10 ∷ []) }
 {
     write!(out, "physical ");
     print_number(out, bit_of(t), " ");
@@ -137,7 +157,8 @@ fn print_fit<W: Write>(
     words: u64,
     res: &[u64],
 ) -> usize
-    ensures { result ≡ fit_lines words (length res.now) }
+    ensures lines { result ≡ fit_lines words (length res.now) }
+    ensures text { Writes W.contents out.old out.new (lines_text (fit_line stop steps evaluations converged ∷ fit_shown words res.now)) }
 {
     write!(out, "fit ");
     print_number(out, stop, " ");
@@ -150,9 +171,11 @@ fn print_fit<W: Write>(
     print_body(out, 6 + words, res)
 }
 
-// The sheet of an answer whose numbers stand in the result, or its refusal; how many lines were written.
+// The sheet of an answer whose numbers stand in the result, or its refusal; how many lines that is.
 pub fn print_sheet<W: Write>(out: &mut Output<W>, answer: Answer, res: &[u64]) -> usize
-    ensures { result ≡ lines_of answer (length res.now) }
+    ensures lines { result ≡ lines_of answer (length res.now) }
+    ensures count { result ≡ length (sheet_lines answer res.now) }
+    ensures text { Writes W.contents out.old out.new (lines_text (sheet_lines answer res.now)) }
 {
     match answer {
         Answer::Refused(r) => print_refusal(out, r),
@@ -183,7 +206,8 @@ pub fn print_sheet<W: Write>(out: &mut Output<W>, answer: Answer, res: &[u64]) -
 
 // `read K` of a card of kind K that the reader accepts, or its refusal: one line.
 pub fn print_reading<W: Write>(out: &mut Output<W>, reading: Reading) -> usize
-    ensures { result ≡ 1 }
+    ensures lines { result ≡ 1 }
+    ensures text { Writes W.contents out.old out.new (lines_text (reading_lines reading)) }
 {
     match reading {
         Reading::Refused(r) => print_refusal(out, r),

@@ -1,5 +1,6 @@
 // A writer that a sheet goes to.
-ghost use Rattle.std.specs.Prelude.{◌≡◌, ◌↔◌, IsTrue, IsOk, IsSome, IsNone, None};
+ghost use Rattle.std.specs.Prelude.{◌≡◌, ◌↔◌, IsOk, IfSome};
+ghost use Rattle.printing.specs.Outputs.{writer_of, IsWhole, Writes};
 
 use std::fmt::Display;
 use std::io;
@@ -13,14 +14,19 @@ pub struct Output<W> {
 }
 
 impl<W: Write> Output<W> {
-    pub fn new(writer: W) -> Self {
+    pub fn new(writer: W) -> Self
+        ensures whole { IsWhole result }
+        ensures writer { writer_of result ≡ writer }
+    {
         Output {
             writer,
             error: None,
         }
     }
 
-    pub(crate) fn write_fmt<D: Display + Drop>(&mut self, text: D) {
+    pub(crate) fn write_fmt<D: Display + Drop>(&mut self, text: D)
+        ensures { IfSome (D.output text) (Writes W.contents self.old self.new) }
+    {
         if self.error.is_none() {
             if let Err(e) = self.writer.write_fmt(text) {
                 self.error = Some(e);
@@ -32,6 +38,7 @@ impl<W: Write> Output<W> {
     pub fn finish(self) -> io::Result<()>
     where
         W: Drop,
+        ensures { IsOk result ↔ IsWhole self }
     {
         match self.error {
             None => Ok(()),
