@@ -2,14 +2,19 @@
 use Rattle.std.specs.Prelude.{ℕ, List, IsNone}
 use Rattle.std.specs.declared.option.Option.{Option}
 use Rattle.std.specs.Io.KnownBytes.{Appends}
+use Rattle.std.specs.declared.io.Error.{Error}
 use Rattle.printing.specs.declared.output.Output.{Output}
 
 abbrev pub writer_of : {W : Type 0} → Output W → W
 writer_of o = o.writer
 
+-- the error of the write that failed, if one did
+abbrev pub error_of : {W : Type 0} → Output W → Option Error
+error_of o = o.error
+
 -- no write has failed
 abbrev pub IsWhole : {W : Type 0} → Output W → Type 0
-IsWhole o = IsNone o.error
+IsWhole o = IsNone (error_of o)
 
 -- where no write has failed by p, none had by o, and in between the writer was given bs and nothing else
 pub record Writes {W : Type 0} (contents : W → Option (List ℕ)) (o p : Output W) (bs : List ℕ) : Type 0 where

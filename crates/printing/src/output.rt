@@ -1,6 +1,6 @@
 // A writer that a sheet goes to.
-ghost use Rattle.std.specs.Prelude.{◌≡◌, ◌↔◌, IsOk, IfSome};
-ghost use Rattle.printing.specs.Outputs.{writer_of, IsWhole, Writes};
+ghost use Rattle.std.specs.Prelude.{◌≡◌, ◌↔◌, IsOk, IfErr, IfSome, Some};
+ghost use Rattle.printing.specs.Outputs.{writer_of, error_of, IsWhole, Writes};
 
 use std::fmt::Display;
 use std::io;
@@ -38,7 +38,8 @@ impl<W: Write> Output<W> {
     pub fn finish(self) -> io::Result<()>
     where
         W: Drop,
-        ensures { IsOk result ↔ IsWhole self }
+        ensures ok { IsOk result ↔ IsWhole self }
+        ensures err { IfErr result (λ e. error_of self ≡ Some e) }
     {
         match self.error {
             None => Ok(()),
