@@ -1,3 +1,4 @@
+use Prim.Native.Nat.{◌*◌}
 use Rattle.sheets.proofs.Shown.{transfer-most, physical-of-card}
 use Rattle.numbers.proofs.Slices.{length-numbers}
 use Rattle.numbers.specs.Slice.{numbers_at}
