@@ -12,12 +12,6 @@ use mathlib.Core.List.{List}
 use mathlib.Core.Path.{sym, ap, ◌∙◌, refl}
 use Rattle.library.proofs.apply.Goals as goal
 
-pub shape_of-res-then-not-has_room : goal.shape_of-res-then-not-has_room
-shape_of-res-then-not-has_room c = refl
-
-pub shape_of-work-then-not-has_room : goal.shape_of-work-then-not-has_room
-shape_of-work-then-not-has_room c = refl
-
 pub returns-then-not-has_room : goal.returns-then-not-has_room
 returns-then-not-has_room c = stays _ (crowded _ _ _ (sym c.has_room.ensures ∙ c.if-not-has_room.true))
 
@@ -33,21 +27,9 @@ emit-requires c =
     let r = room_for _ _ (sym c.has_room.ensures ∙ c.if-not-has_room.false) in
     (omega (arith, four-to.1, r.1), omega (arith, four-to.1, r.0))
 
-pub shape_of-res-in-Refused : goal.shape_of-res-in-Refused
-shape_of-res-in-Refused c = refl
-
-pub shape_of-work-in-Refused : goal.shape_of-work-in-Refused
-shape_of-work-in-Refused c = c.work-1.given
-
 pub returns-in-Refused : goal.returns-in-Refused
 unfolding apply_entry
 returns-in-Refused c = entry-refused _ Applied _ _ _ c.args.res.now _ (sym c.has_room.ensures ∙ c.if-not-has_room.false) _ c.apply_within-found.ensures.0 _ c.in-Refused.is
-
-pub shape_of-res-in-Good : goal.shape_of-res-in-Good
-shape_of-res-in-Good c = c.res-1.given
-
-pub shape_of-work-in-Good : goal.shape_of-work-in-Good
-shape_of-work-in-Good c = c.work-1.given
 
 pub returns-in-Good : goal.returns-in-Good
 unfolding apply_entry

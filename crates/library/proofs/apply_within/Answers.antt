@@ -19,9 +19,6 @@ returns-in-Refused c =
     let v = apply-refused c.args.n c.args.values.now c.args.input.now _ _ c.check_qubits-found.ensures c.in-Refused.is in
     (v.0, ap (λ (x : List Float). over x c.args.work.now) v.1)
 
-pub shape_of-work : goal.shape_of-work
-shape_of-work c = c.work-1.given
-
 pub returns-in-Good : goal.returns-in-Good
 returns-in-Good c =
     let v = apply-goes-on c.args.n c.args.values.now c.args.input.now _ (sym c.in-Good.is ∙ c.check_qubits-found.ensures) c.four_to.ensures.0 in

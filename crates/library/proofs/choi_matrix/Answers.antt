@@ -13,12 +13,6 @@ use mathlib.Core.List.{List}
 use mathlib.Core.Path.{sym, ap, ap₂, ◌∙◌, refl}
 use Rattle.library.proofs.choi_matrix.Goals as goal
 
-pub shape_of-res-then-not-has_room : goal.shape_of-res-then-not-has_room
-shape_of-res-then-not-has_room c = refl
-
-pub shape_of-work-then-not-has_room : goal.shape_of-work-then-not-has_room
-shape_of-work-then-not-has_room c = refl
-
 pub returns-then-not-has_room : goal.returns-then-not-has_room
 returns-then-not-has_room c = stays _ (crowded _ _ _ (sym c.has_room.ensures ∙ c.if-not-has_room.true))
 
@@ -36,21 +30,9 @@ emit-requires c =
     let q = c.square.ensures.0 ∙ ap₂ ◌*◌ four-to.0 four-to.0 in
     (omega (arith, h, q, r.1), omega (arith, h, q, r.0))
 
-pub shape_of-res-in-Refused : goal.shape_of-res-in-Refused
-shape_of-res-in-Refused c = refl
-
-pub shape_of-work-in-Refused : goal.shape_of-work-in-Refused
-shape_of-work-in-Refused c = c.work-1.given
-
 pub returns-in-Refused : goal.returns-in-Refused
 unfolding choi_entry
 returns-in-Refused c = entry-refused _ Choi _ _ _ c.args.res.now _ (sym c.has_room.ensures ∙ c.if-not-has_room.false) _ c.choi_within-found.ensures.0 _ c.in-Refused.is
-
-pub shape_of-res-in-Good : goal.shape_of-res-in-Good
-shape_of-res-in-Good c = c.res-1.given
-
-pub shape_of-work-in-Good : goal.shape_of-work-in-Good
-shape_of-work-in-Good c = c.work-1.given
 
 pub returns-in-Good : goal.returns-in-Good
 unfolding choi_entry

@@ -18,9 +18,6 @@ returns-in-Refused c =
     let v = choi-refused a.n a.values.now _ _ c.check_qubits-found.ensures c.in-Refused.is in
     (v.0, ap (λ (x : List Float). over x a.work.now) v.1)
 
-pub shape_of-work : goal.shape_of-work
-shape_of-work c = c.work-1.given
-
 pub returns-in-Good : goal.returns-in-Good
 returns-in-Good c =
     let a = c.args in

@@ -8,12 +8,6 @@ use native.Mathlib.Omega.{arith}
 use mathlib.Core.Path.{sym, ◌∙◌, refl}
 use Rattle.library.proofs.probes.Goals as goal
 
-pub shape_of-res-then-not-has_room : goal.shape_of-res-then-not-has_room
-shape_of-res-then-not-has_room c = refl
-
-pub shape_of-work-then-not-has_room : goal.shape_of-work-then-not-has_room
-shape_of-work-then-not-has_room c = refl
-
 pub returns-then-not-has_room : goal.returns-then-not-has_room
 returns-then-not-has_room c = stays _ (crowded _ _ _ (sym c.has_room.ensures ∙ c.if-not-has_room.true))
 
@@ -38,21 +32,9 @@ emit-requires c =
     let r = room_for _ _ (sym c.has_room.ensures ∙ c.if-not-has_room.false) in
     (omega (arith, s.most, r.1, c.probes.auto), omega (arith, s.most, r.0))
 
-pub shape_of-res-in-Refused : goal.shape_of-res-in-Refused
-shape_of-res-in-Refused c = refl
-
-pub shape_of-work-in-Refused : goal.shape_of-work-in-Refused
-shape_of-work-in-Refused c = refl
-
 pub returns-in-Refused : goal.returns-in-Refused
 unfolding probes_entry
 returns-in-Refused c = entry-refused _ Probes _ _ _ c.args.res.now _ (sym c.has_room.ensures ∙ c.if-not-has_room.false) _ c.check_qubits-found.ensures _ c.in-Refused.is
-
-pub shape_of-res-in-Good : goal.shape_of-res-in-Good
-shape_of-res-in-Good c = c.res-1.given
-
-pub shape_of-work-in-Good : goal.shape_of-work-in-Good
-shape_of-work-in-Good c = c.work-1.given
 
 pub returns-in-Good : goal.returns-in-Good
 unfolding probes_entry

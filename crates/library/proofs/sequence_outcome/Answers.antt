@@ -10,12 +10,6 @@ use Rattle.library.specs.Entries.{probabilities_entry}
 use Rattle.library.proofs.Entries.{entry-refused, entry-shown}
 use Rattle.library.proofs.sequence_outcome.Goals as goal
 
-pub shape_of-res-then-not-has_room : goal.shape_of-res-then-not-has_room
-shape_of-res-then-not-has_room c = refl
-
-pub shape_of-work-then-not-has_room : goal.shape_of-work-then-not-has_room
-shape_of-work-then-not-has_room c = refl
-
 pub returns-then-not-has_room : goal.returns-then-not-has_room
 returns-then-not-has_room c = stays _ (crowded _ _ _ (sym c.has_room.ensures ∙ c.if-not-has_room.true))
 
@@ -31,21 +25,9 @@ emit-requires c =
     let f = fitting _ _ _ _ _ (sym c.in-Good.is ∙ c.check-found.ensures) in
     (omega (arith, f.sized.effects, c.probabilities_room-out.ensures), omega (arith, f.sized.effects, r.0))
 
-pub shape_of-res-in-Refused : goal.shape_of-res-in-Refused
-shape_of-res-in-Refused c = refl
-
-pub shape_of-work-in-Refused : goal.shape_of-work-in-Refused
-shape_of-work-in-Refused c = refl
-
 pub returns-in-Refused : goal.returns-in-Refused
 unfolding probabilities_entry
 returns-in-Refused c = entry-refused _ Probabilities _ _ _ c.args.res.now _ (sym c.has_room.ensures ∙ c.if-not-has_room.false) _ c.check-found.ensures _ c.in-Refused.is
-
-pub shape_of-res-in-Good : goal.shape_of-res-in-Good
-shape_of-res-in-Good c = c.res-1.given
-
-pub shape_of-work-in-Good : goal.shape_of-work-in-Good
-shape_of-work-in-Good c = c.work-1.given
 
 pub returns-in-Good : goal.returns-in-Good
 unfolding probabilities_entry

@@ -9,9 +9,6 @@ use native.Mathlib.Omega.{arith}
 use mathlib.Core.Path.{refl, sym, ◌∙◌}
 use Rattle.library.proofs.setting.Goals as goal
 
-pub shape_of-res-then-not-has_room : goal.shape_of-res-then-not-has_room
-shape_of-res-then-not-has_room c = refl
-
 pub returns-then-not-has_room : goal.returns-then-not-has_room
 returns-then-not-has_room c = stays _ (crowded _ _ _ (sym c.has_room.ensures ∙ c.if-not-has_room.true))
 
@@ -21,15 +18,9 @@ setting-requires c =
     let r = room_for _ _ (sym c.has_room.ensures ∙ c.if-not-has_room.false) in
     (s.0, s.1, omega (arith, s.0, r.0))
 
-pub shape_of-res-in-Refused : goal.shape_of-res-in-Refused
-shape_of-res-in-Refused c = refl
-
 pub returns-in-Refused : goal.returns-in-Refused
 unfolding setting_entry
 returns-in-Refused c = entry-refused _ Setting _ _ _ c.args.res.now _ (sym c.has_room.ensures ∙ c.if-not-has_room.false) _ c.check_setting-found.ensures _ c.in-Refused.is
-
-pub shape_of-res-in-Good : goal.shape_of-res-in-Good
-shape_of-res-in-Good c = c.res-1.given
 
 pub returns-in-Good : goal.returns-in-Good
 unfolding setting_entry

@@ -14,19 +14,10 @@ emit-requires c =
     let two_to = c.two_to-d in
     (omega (arith, parts-most two_to.result two_to.ensures.1, c.invert_density-found.auto), omega (arith, parts-most two_to.result two_to.ensures.1, c.requires.2))
 
-pub shape_of-work-in-Refused : goal.shape_of-work-in-Refused
-shape_of-work-in-Refused c = c.work-1.given
-
 pub returns-in-Refused : goal.returns-in-Refused
 returns-in-Refused c =
     let invert-density = c.invert_density-found.ensures in
     (stays c.args.res.now (density-refused _ _ _ invert-density.0 _ c.in-Refused.is), invert-density.1)
-
-pub shape_of-res : goal.shape_of-res
-shape_of-res c = c.res-1.given
-
-pub shape_of-work-in-Good : goal.shape_of-work-in-Good
-shape_of-work-in-Good c = c.work-1.given
 
 pub returns-in-Good : goal.returns-in-Good
 returns-in-Good c =

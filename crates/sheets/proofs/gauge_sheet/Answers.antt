@@ -19,19 +19,10 @@ put_model-requires c =
     let g = new-model c.args.card.now c.args.h (sym c.in-Good.is ∙ transform.0) in
     (c.requires.0, omega (arith, front_length (gauge_numbers c.args.card.now c.args.h) _ transform.1 (length-new-model _ _ _ g ∙ sym model-numbers.0), model-numbers.0), omega (arith, words-most c.args.h c.requires.0.limits, c.requires.2))
 
-pub shape_of-work-in-Refused : goal.shape_of-work-in-Refused
-shape_of-work-in-Refused c = c.work-1.given
-
 pub returns-in-Refused : goal.returns-in-Refused
 returns-in-Refused c =
     let transform = c.transform-found.ensures in
     (stays c.args.res.now (gauge-refused _ _ _ _ transform.0 c.in-Refused.is), transform.1)
-
-pub shape_of-res : goal.shape_of-res
-shape_of-res c = c.res-1.given
-
-pub shape_of-work-in-Good : goal.shape_of-work-in-Good
-shape_of-work-in-Good c = c.work-1.given
 
 pub returns-in-Good : goal.returns-in-Good
 returns-in-Good c =

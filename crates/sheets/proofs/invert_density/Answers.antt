@@ -18,9 +18,6 @@ pub linear_inversion-requires : goal.linear_inversion-requires
 linear_inversion-requires c =
     (c.requires.0, front_length (numbers_at c.args.card.now 2 _) _ c.load.ensures (length-numbers _ _ _) ∙ c.four_to-count.ensures.0, omega (arith, two-most c.args.n c.requires.0, c.requires.2))
 
-pub shape_of-work : goal.shape_of-work
-shape_of-work c = c.work-1.given
-
 pub returns : goal.returns
 returns c =
     let tolerance-of = c.tolerance_of.ensures in

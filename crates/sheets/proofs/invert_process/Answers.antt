@@ -28,9 +28,6 @@ pub process_linear_inversion-requires : goal.process_linear_inversion-requires
 process_linear_inversion-requires c =
     (c.requires.0, c.requires.1, omega (arith, front_length (numbers_at c.args.card.now 2 _) _ c.load.ensures (length-numbers _ _ _), c.square-count.ensures.0), omega (arith, square-most c.args.p c.requires.1, c.requires.3))
 
-pub shape_of-work : goal.shape_of-work
-shape_of-work c = c.work-1.given
-
 pub returns : goal.returns
 returns c =
     let tolerance-of = c.tolerance_of.ensures in

@@ -13,20 +13,11 @@ invert_process-found-requires c =
     let k = c.four_to-p.ensures.0 in
     (omega (arith, four-some c.args.n, k), omega (arith, four-most c.args.n c.requires.0, k), rw k c.requires.1, c.requires.3)
 
-pub shape_of-work-in-Refused : goal.shape_of-work-in-Refused
-shape_of-work-in-Refused c = c.work-1.given
-
 pub returns-in-Refused : goal.returns-in-Refused
 returns-in-Refused c =
     let four-to = c.four_to-p.ensures in
     let invert-process = c.invert_process-found.ensures in
     (stays c.args.res.now (process-refused _ c.args.n _ four-to.0 _ invert-process.0 _ c.in-Refused.is), invert-process.1 ∙ ap (λ (p : ℕ). over (transfer_numbers c.args.card.now p) c.args.work.now) four-to.0)
-
-pub shape_of-res : goal.shape_of-res
-shape_of-res c = c.res-1.given
-
-pub shape_of-work-in-Good : goal.shape_of-work-in-Good
-shape_of-work-in-Good c = c.work-1.given
 
 pub returns-in-Good : goal.returns-in-Good
 returns-in-Good c =

@@ -24,9 +24,6 @@ pub project_density-requires : goal.project_density-requires
 project_density-requires c =
     (front_length (numbers_at c.args.card.now 3 _) _ c.load.ensures (length-numbers _ _ _) ∙ ap (λ (q : ℕ). 2 * q) c.square-count.ensures.0, c.requires.0, c.requires.1, omega (arith, estimate-most c.args.d c.requires.1, c.requires.3))
 
-pub shape_of-work : goal.shape_of-work
-shape_of-work c = c.work-1.given
-
 pub returns : goal.returns
 returns c =
     projection-of-card c.args.card.now c.args.d _ _ _ _ _ _ c.args.work.now c.tolerance_of.ensures c.word_at-most.ensures c.square-count.ensures.0

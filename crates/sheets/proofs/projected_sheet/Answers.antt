@@ -7,19 +7,10 @@ pub emit-requires : goal.emit-requires
 emit-requires c =
     (omega (arith, c.square.ensures.0, estimate-most c.args.d c.requires.1, c.project-found.auto, c.requires.4), omega (arith, c.square.ensures.0, estimate-most c.args.d c.requires.1, c.requires.3))
 
-pub shape_of-work-in-Refused : goal.shape_of-work-in-Refused
-shape_of-work-in-Refused c = c.work-1.given
-
 pub returns-in-Refused : goal.returns-in-Refused
 returns-in-Refused c =
     let project = c.project-found.ensures in
     (stays c.args.res.now (projected-refused _ _ _ project.0 _ c.in-Refused.is), project.1)
-
-pub shape_of-res : goal.shape_of-res
-shape_of-res c = c.res-1.given
-
-pub shape_of-work-in-Good : goal.shape_of-work-in-Good
-shape_of-work-in-Good c = c.work-1.given
 
 pub returns-in-Good : goal.returns-in-Good
 returns-in-Good c =

@@ -15,9 +15,6 @@ returns-in-Refused c =
     let r = model-refused c.args.card.now c.args.h _ _ c.check_model-found.ensures c.in-Refused.is in
     (r.0, ap (λ (x : List Float). over x c.args.work.now) r.1)
 
-pub shape_of-work : goal.shape_of-work
-shape_of-work c = c.work-1.given
-
 pub returns-in-Good : goal.returns-in-Good
 returns-in-Good c =
     let gauge-transform = c.gauge_transform.ensures in
