@@ -1,4 +1,4 @@
-/* Mintshuttle for C: link target/staticlib/libexports.a, which `rt staticlib exports` writes (x86-64, no other library).
+/* Mintshuttle for C: link crates/exports/out/libexports.a, which `rt lib` writes in crates/exports (x86-64, no other library).
  *
  * A slice is a pointer and a length in elements. The pointer is aligned for its element (8 bytes for uint64_t and double) and valid for so many of them;
  * of an empty slice it may be any aligned pointer that is not null. A slice that is written (result, work, answer, out) must not overlap another slice of

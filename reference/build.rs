@@ -54,10 +54,10 @@ fn link_port(root: &Path) {
     }
     let folder = match env::var_os("MINTSHUTTLE_LIB") {
         Some(folder) => PathBuf::from(folder),
-        None => root.join("../target/staticlib"),
+        None => root.join("../crates/exports/out"),
     };
     let library = folder.join("libexports.a");
-    assert!(library.exists(), "{} is not there: run `rt staticlib exports` first", library.display());
+    assert!(library.exists(), "{} is not there: run `rt lib` in crates/exports first", library.display());
     println!("cargo:rerun-if-changed={}", library.display());
     println!("cargo:rustc-link-search=native={}", folder.display());
     println!("cargo:rustc-link-lib=static=exports");

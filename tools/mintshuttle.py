@@ -14,7 +14,7 @@ card, the program `sheet` turns the card into a sheet or a refusal, and both
 can be shown in words and decimal numbers.
 
   python3 tools/mintshuttle.py make state.json -o state.card
-  target/bin/sheet < state.card > state.sheet
+  crates/sheet/out/sheet < state.card > state.sheet
   python3 tools/mintshuttle.py show state.sheet --card state.card
 
 `COMMAND --help` has the details. docs/CARD.md has the format of cards and
@@ -86,7 +86,7 @@ SHOW_EXAMPLE = """
 Example:
 
   python3 tools/mintshuttle.py show --words crates/sheet/stdin
-  target/bin/sheet < fit.card | python3 tools/mintshuttle.py show --card fit.card
+  crates/sheet/out/sheet < fit.card | python3 tools/mintshuttle.py show --card fit.card
 """
 
 EXPLAIN = """\

@@ -328,12 +328,12 @@ class Documents(unittest.TestCase):
 
 
 class Story(unittest.TestCase):
-    """docs/LABORATORY.md, followed. It needs a program that makes the sheets of fits: target/bin/sheet, or the one that MINTSHUTTLE_SHEET names."""
+    """docs/LABORATORY.md, followed. It needs a program that makes the sheets of fits: crates/sheet/out/sheet, or the one that MINTSHUTTLE_SHEET names."""
 
     def setUp(self):
-        self.program = os.environ.get("MINTSHUTTLE_SHEET", os.path.join(ROOT, "target/bin/sheet"))
+        self.program = os.environ.get("MINTSHUTTLE_SHEET", os.path.join(ROOT, "crates/sheet/out/sheet"))
         if not os.path.exists(self.program):
-            self.skipTest(f"{self.program} is not there: rt check sheet")
+            self.skipTest(f"{self.program} is not there: rt run in crates/sheet")
 
     def made(self, name):
         return subprocess.run([self.program], input=describe.card_of(example(name)), capture_output=True).stdout.decode()
@@ -355,8 +355,8 @@ class Story(unittest.TestCase):
         shown = 0
         for part in parts:
             language, _, body = part.partition("\n")
-            if language == "sh" and "rt check" not in body:
-                command = body.replace("target/bin/sheet", self.program)
+            if language == "sh" and "rt run" not in body:
+                command = body.replace("crates/sheet/out/sheet", self.program)
                 done = subprocess.run(["sh", "-eu", "-c", command], cwd=ROOT, capture_output=True)
                 self.assertEqual(done.returncode, 0, (body, done.stderr.decode()))
                 printed = done.stdout.decode()

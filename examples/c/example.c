@@ -1,6 +1,6 @@
 /* Every function of mintshuttle.h, called once or more, its results checked: sheets of two cards, a refusal, the library entries.
  *
- *   cc -Wall -Wextra -Werror -I include examples/c/example.c target/staticlib/libexports.a -o example && ./example
+ *   cc -Wall -Wextra -Werror -I include examples/c/example.c crates/exports/out/libexports.a -o example && ./example
  *
  * bindings/check does the same. Exits 1 if a result is not the expected one. */
 #include "mintshuttle.h"

@@ -1,63 +1,77 @@
-// Sheets, refusals and readings as lines on standard output. What is written is tested, not proved; the number of lines is stated.
+// Sheets, refusals and readings as lines of an output. What is written is stated byte for byte, for each writer whose bytes a contract can name.
 #![tactic(auto)]
 
-ghost use Rattle.std.specs.Prelude.{◌≡◌, ◌+◌, ◌*◌, ◌≤◌, ◌<◌, length};
+ghost use Rattle.std.specs.Prelude.{◌≡◌, ◌+◌, ◌*◌, ◌≤◌, ◌<◌, ◌++◌, ◌∷◌, [], length, codes};
+ghost use Rattle.std.specs.Fmt.{decimal};
+ghost use Rattle.lists.specs.Build.{build};
+ghost use Rattle.printing.specs.Outputs.{Writes};
+ghost use Rattle.printing.specs.Text.{lines_text, word_text, header_line, refusal_line, tests_line, fit_line, word_line, entry_line, words_shown, square_shown, entries_shown, fit_shown, sheet_lines, reading_lines};
 ghost use Rattle.printing.specs.Lines.{word_lines, square_lines, entry_lines, fit_lines, lines_of};
 
 use card::Reading;
-use libc::STDOUT_FILENO;
 use outcome::{Answer, bit_of};
 use refusal::Refusal;
+use std::io::Write;
 
-fn print_number(n: u64, end: &[u8]) {
-    io::print_decimal(STDOUT_FILENO, n);
-    io::write_all(STDOUT_FILENO, end);
+mod output;
+
+pub use output::Output;
+
+fn print_number<W: Write>(out: &mut Output<W>, n: u64, end: &str)
+    ensures { Writes W.contents out.old out.new (decimal n ++ end.now) }
+{
+    write!(out, "{n}{end}");
 }
 
 // 16 digits, whatever the word.
-fn print_word(w: u64, end: &[u8]) {
-    io::print_hex(STDOUT_FILENO, w, 16);
-    io::write_all(STDOUT_FILENO, end);
+fn print_word<W: Write>(out: &mut Output<W>, w: u64, end: &str)
+    ensures { Writes W.contents out.old out.new (word_text w ++ end.now) }
+{
+    write!(out, "{w:016x}{end}");
 }
 
-// The name ends with a space.
-fn print_header(name: &[u8], n: u64) {
-    io::write_all(STDOUT_FILENO, name);
-    print_number(n, b"\n");
+fn print_header<W: Write>(out: &mut Output<W>, name: &str, n: u64)
+    ensures { Writes W.contents out.old out.new (header_line name.now n ++ 10 ∷ []) }
+{
+    writeln!(out, "{name} {n}");
 }
 
 // `refused N A B`: one line.
-pub fn print_refusal(r: Refusal) -> usize
-    ensures { result ≡ 1 }
+pub fn print_refusal<W: Write>(out: &mut Output<W>, r: Refusal) -> usize
+    ensures lines { result ≡ 1 }
+    ensures text { Writes W.contents out.old out.new (refusal_line r ++ 10 ∷ []) }
 {
-    io::write_all(STDOUT_FILENO, b"refused ");
-    print_number(refusal::code(r), b" ");
-    print_word(refusal::value_a(r), b" ");
-    print_word(refusal::value_b(r), b"\n");
+    write!(out, "refused ");
+    print_number(out, refusal::code(r), " ");
+    print_word(out, refusal::value_a(r), " ");
+    print_word(out, refusal::value_b(r), "\n");
     1
 }
 
 // Entry i of a matrix: its real and its imaginary part.
-fn print_entry(res: &[u64], i: usize)
+fn print_entry<W: Write>(out: &mut Output<W>, res: &[u64], i: usize)
     requires { 2 * i + 1 < length res.now }
+    ensures { Writes W.contents out.old out.new (entry_line res.now i ++ 10 ∷ []) }
 {
-    print_word(res[2 * i], b" ");
-    print_word(res[2 * i + 1], b"\n");
+    print_word(out, res[2 * i], " ");
+    print_word(out, res[2 * i + 1], "\n");
 }
 
-fn print_entries(res: &[u64], count: usize)
+fn print_entries<W: Write>(out: &mut Output<W>, res: &[u64], count: usize)
     requires { 2 * count ≤ length res.now }
+    ensures { Writes W.contents out.old out.new (lines_text (build count (entry_line res.now))) }
 {
     for i in 0..count {
-        print_entry(res, i);
+        print_entry(out, res, i);
     }
 }
 
-// A header, and a matrix of d rows where the result holds it; how many lines were written.
-fn print_matrix(name: &[u8], d: u64, res: &[u64]) -> usize
-    ensures { result ≡ entry_lines d (length res.now) }
+// A header, and a matrix of d rows where the result holds it; how many lines that is.
+fn print_matrix<W: Write>(out: &mut Output<W>, name: &str, d: u64, res: &[u64]) -> usize
+    ensures lines { result ≡ entry_lines d (length res.now) }
+    ensures text { Writes W.contents out.old out.new (lines_text (header_line name.now d ∷ entries_shown d res.now)) }
 {
-    print_header(name, d);
+    print_header(out, name, d);
     if 64 < d {
         return 1;
     }
@@ -65,70 +79,77 @@ fn print_matrix(name: &[u8], d: u64, res: &[u64]) -> usize
     if res.len() < 2 * count {
         return 1;
     }
-    print_entries(res, count);
+    print_entries(out, res, count);
     1 + count
 }
 
-fn print_words(res: &[u64], count: usize)
+fn print_words<W: Write>(out: &mut Output<W>, res: &[u64], count: usize)
     requires { count ≤ length res.now }
+    ensures { Writes W.contents out.old out.new (lines_text (build count (word_line res.now))) }
 {
     for i in 0..count {
-        print_word(res[i], b"\n");
+        print_word(out, res[i], "\n");
     }
 }
 
 // After a header, so many words, one a line, where the result holds them; how many lines there are then.
-fn print_body(count: u64, res: &[u64]) -> usize
-    ensures { result ≡ word_lines count (length res.now) }
+fn print_body<W: Write>(out: &mut Output<W>, count: u64, res: &[u64]) -> usize
+    ensures lines { result ≡ word_lines count (length res.now) }
+    ensures text { Writes W.contents out.old out.new (lines_text (words_shown count res.now)) }
 {
     let n = count as usize;
     if res.len() < n {
         return 1;
     }
-    print_words(res, n);
+    print_words(out, res, n);
     1 + n
 }
 
 // A header, and as many words as it says.
-fn print_list(name: &[u8], count: u64, res: &[u64]) -> usize
-    ensures { result ≡ word_lines count (length res.now) }
+fn print_list<W: Write>(out: &mut Output<W>, name: &str, count: u64, res: &[u64]) -> usize
+    ensures lines { result ≡ word_lines count (length res.now) }
+    ensures text { Writes W.contents out.old out.new (lines_text (header_line name.now count ∷ words_shown count res.now)) }
 {
-    print_header(name, count);
-    print_body(count, res)
+    print_header(out, name, count);
+    print_body(out, count, res)
 }
 
 // A header, and a matrix of p rows, one word a line.
-fn print_square(name: &[u8], p: u64, res: &[u64]) -> usize
-    ensures { result ≡ square_lines p (length res.now) }
+fn print_square<W: Write>(out: &mut Output<W>, name: &str, p: u64, res: &[u64]) -> usize
+    ensures lines { result ≡ square_lines p (length res.now) }
+    ensures text { Writes W.contents out.old out.new (lines_text (header_line name.now p ∷ square_shown p res.now)) }
 {
-    print_header(name, p);
+    print_header(out, name, p);
     if 64 < p {
         return 1;
     }
-    print_body(p * p, res)
+    print_body(out, p * p, res)
 }
 
 // `diagnostics`, and two words.
-fn print_diagnostics(res: &[u64]) -> usize
-    ensures { result ≡ word_lines 2 (length res.now) }
+fn print_diagnostics<W: Write>(out: &mut Output<W>, res: &[u64]) -> usize
+    ensures lines { result ≡ word_lines 2 (length res.now) }
+    ensures text { Writes W.contents out.old out.new (lines_text (codes "diagnostics" ∷ words_shown 2 res.now)) }
 {
-    io::write_all(STDOUT_FILENO, b"diagnostics\n");
-    print_body(2, res)
+    writeln!(out, "diagnostics");
+    print_body(out, 2, res)
 }
 
 // `physical T U C`: one line.
-fn print_tests(t: bool, u: bool, c: bool) -> usize
-    ensures { result ≡ 1 }
+fn print_tests<W: Write>(out: &mut Output<W>, t: bool, u: bool, c: bool) -> usize
+    ensures lines { result ≡ 1 }
+    ensures text { Writes W.contents out.old out.new (tests_line t u c ++ 10 ∷ []) }
 {
-    io::write_all(STDOUT_FILENO, b"physical ");
-    print_number(bit_of(t), b" ");
-    print_number(bit_of(u), b" ");
-    print_number(bit_of(c), b"\n");
+    write!(out, "physical ");
+    print_number(out, bit_of(t), " ");
+    print_number(out, bit_of(u), " ");
+    print_number(out, bit_of(c), "\n");
     1
 }
 
 // `fit R S E V`, six numbers and the words of the model.
-fn print_fit(
+fn print_fit<W: Write>(
+    out: &mut Output<W>,
     stop: u64,
     steps: u64,
     evaluations: u64,
@@ -136,59 +157,63 @@ fn print_fit(
     words: u64,
     res: &[u64],
 ) -> usize
-    ensures { result ≡ fit_lines words (length res.now) }
+    ensures lines { result ≡ fit_lines words (length res.now) }
+    ensures text { Writes W.contents out.old out.new (lines_text (fit_line stop steps evaluations converged ∷ fit_shown words res.now)) }
 {
-    io::write_all(STDOUT_FILENO, b"fit ");
-    print_number(stop, b" ");
-    print_number(steps, b" ");
-    print_number(evaluations, b" ");
-    print_number(bit_of(converged), b"\n");
+    write!(out, "fit ");
+    print_number(out, stop, " ");
+    print_number(out, steps, " ");
+    print_number(out, evaluations, " ");
+    print_number(out, bit_of(converged), "\n");
     if 4096 < words {
         return 1;
     }
-    print_body(6 + words, res)
+    print_body(out, 6 + words, res)
 }
 
-// The sheet of an answer whose numbers stand in the result, or its refusal; how many lines were written.
-pub fn print_sheet(answer: Answer, res: &[u64]) -> usize
-    ensures { result ≡ lines_of answer (length res.now) }
+// The sheet of an answer whose numbers stand in the result, or its refusal; how many lines that is.
+pub fn print_sheet<W: Write>(out: &mut Output<W>, answer: Answer, res: &[u64]) -> usize
+    ensures lines { result ≡ lines_of answer (length res.now) }
+    ensures count { result ≡ length (sheet_lines answer res.now) }
+    ensures text { Writes W.contents out.old out.new (lines_text (sheet_lines answer res.now)) }
 {
     match answer {
-        Answer::Refused(r) => print_refusal(r),
-        Answer::Density { dimension } => print_matrix(b"density ", dimension, res),
-        Answer::Projected { dimension } => print_matrix(b"projected ", dimension, res),
-        Answer::Process { size } => print_square(b"process ", size, res),
+        Answer::Refused(r) => print_refusal(out, r),
+        Answer::Density { dimension } => print_matrix(out, "density", dimension, res),
+        Answer::Projected { dimension } => print_matrix(out, "projected", dimension, res),
+        Answer::Process { size } => print_square(out, "process", size, res),
         Answer::Physical {
             trace_preserving,
             unital,
             completely_positive,
-        } => print_tests(trace_preserving, unital, completely_positive),
+        } => print_tests(out, trace_preserving, unital, completely_positive),
         Answer::Fit {
             stop,
             steps,
             evaluations,
             converged,
             words,
-        } => print_fit(stop, steps, evaluations, converged, words, res),
-        Answer::Model { words } => print_list(b"model ", words, res),
-        Answer::Diagnostics => print_diagnostics(res),
-        Answer::Probes { count } => print_square(b"probes ", count, res),
-        Answer::Setting { qubits } => print_list(b"setting ", qubits, res),
-        Answer::Applied { size } => print_list(b"applied ", size, res),
-        Answer::Choi { dimension } => print_matrix(b"choi ", dimension, res),
-        Answer::Probabilities { count } => print_list(b"probabilities ", count, res),
+        } => print_fit(out, stop, steps, evaluations, converged, words, res),
+        Answer::Model { words } => print_list(out, "model", words, res),
+        Answer::Diagnostics => print_diagnostics(out, res),
+        Answer::Probes { count } => print_square(out, "probes", count, res),
+        Answer::Setting { qubits } => print_list(out, "setting", qubits, res),
+        Answer::Applied { size } => print_list(out, "applied", size, res),
+        Answer::Choi { dimension } => print_matrix(out, "choi", dimension, res),
+        Answer::Probabilities { count } => print_list(out, "probabilities", count, res),
     }
 }
 
 // `read K` of a card of kind K that the reader accepts, or its refusal: one line.
-pub fn print_reading(reading: Reading) -> usize
-    ensures { result ≡ 1 }
+pub fn print_reading<W: Write>(out: &mut Output<W>, reading: Reading) -> usize
+    ensures lines { result ≡ 1 }
+    ensures text { Writes W.contents out.old out.new (lines_text (reading_lines reading)) }
 {
     match reading {
-        Reading::Refused(r) => print_refusal(r),
+        Reading::Refused(r) => print_refusal(out, r),
         Reading::Accepted(h) => {
             let kind = h.kind;
-            print_header(b"read ", kind as u64);
+            print_header(out, "read", kind as u64);
             1
         }
     }

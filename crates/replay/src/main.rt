@@ -3,7 +3,22 @@
 // answers.
 #![tactic(auto)]
 
-ghost use Rattle.std.specs.Prelude.{◌≡◌, ◌+◌, ◌*◌, ◌≤◌, length};
+ghost use Rattle.std.specs.Prelude.{◌≡◌, ◌+◌, ◌*◌, ◌≤◌, length, IfOk, IfSome};
+
+use input::read_full;
+use printing::{Output, print_reading, print_sheet};
+use std::fs::File;
+use std::io;
+use std::io::{Read, Write};
+use std::rt::Files;
+
+// How the bytes that a file stores are answered.
+#[derive(Clone, Copy)]
+enum Stored {
+    Sheets,
+    Readings,
+    Calls,
+}
 
 // Room for a card; the `ensures` gives the length alone, which lending a part needs.
 fn card_buffer() -> [u8; 65537]
@@ -12,65 +27,58 @@ fn card_buffer() -> [u8; 65537]
     [0; 65537]
 }
 
-fn answer_sheet(card: &[u8]) {
-    let mut result = [0u64; 4096];
+fn answer_sheet<W: Write>(out: &mut Output<W>, card: &[u8]) {
+    let mut res = [0u64; 4096];
     let mut work = [0.0f64; 8192];
-    let answer = tomography::sheet(card, &mut result, &mut work);
-    printing::print_sheet(answer, &result);
+    let answer = tomography::sheet(card, &mut res, &mut work);
+    print_sheet(out, answer, &res);
 }
 
-fn answer_reading(card: &[u8]) {
+fn answer_reading<W: Write>(out: &mut Output<W>, card: &[u8]) {
     let reading = card::read(card);
-    printing::print_reading(reading);
+    print_reading(out, reading);
 }
 
-fn answer_probes(n: u64) {
-    let mut result = [0u64; 4096];
+fn answer_probes<W: Write>(out: &mut Output<W>, n: u64) {
+    let mut res = [0u64; 4096];
     let mut work = [0.0f64; 8192];
-    let answer = library::product_probe_expectations(n, &mut result, &mut work);
-    printing::print_sheet(answer, &result);
+    let answer = library::product_probe_expectations(n, &mut res, &mut work);
+    print_sheet(out, answer, &res);
 }
 
-fn answer_setting(n: u64, index: u64) {
-    let mut result = [0u64; 4096];
+fn answer_setting<W: Write>(out: &mut Output<W>, n: u64, index: u64) {
+    let mut res = [0u64; 4096];
     let mut work = [0.0f64; 8192];
-    let answer = library::local_pauli_setting(n, index, &mut result, &mut work);
-    printing::print_sheet(answer, &result);
+    let answer = library::local_pauli_setting(n, index, &mut res, &mut work);
+    print_sheet(out, answer, &res);
 }
 
-fn answer_apply<'a>(n: u64, values: &'a [f64], input: &'a [f64]) {
-    let mut result = [0u64; 4096];
+fn answer_apply<W: Write>(out: &mut Output<W>, n: u64, values: &[f64], input: &[f64]) {
+    let mut res = [0u64; 4096];
     let mut work = [0.0f64; 8192];
-    let answer = library::apply_expectations(n, values, input, &mut result, &mut work);
-    printing::print_sheet(answer, &result);
+    let answer = library::apply_expectations(n, values, input, &mut res, &mut work);
+    print_sheet(out, answer, &res);
 }
 
-fn answer_choi(n: u64, values: &[f64]) {
-    let mut result = [0u64; 4096];
+fn answer_choi<W: Write>(out: &mut Output<W>, n: u64, values: &[f64]) {
+    let mut res = [0u64; 4096];
     let mut work = [0.0f64; 8192];
-    let answer = library::normalized_choi(n, values, &mut result, &mut work);
-    printing::print_sheet(answer, &result);
+    let answer = library::normalized_choi(n, values, &mut res, &mut work);
+    print_sheet(out, answer, &res);
 }
 
-fn answer_probabilities<'a>(
+fn answer_probabilities<W: Write>(
+    out: &mut Output<W>,
     d: u64,
     effects: u64,
-    names: &'a [u64],
-    values: &'a [f64],
-    sequence: &'a [u64],
+    names: &[u64],
+    values: &[f64],
+    sequence: &[u64],
 ) {
-    let mut result = [0u64; 4096];
+    let mut res = [0u64; 4096];
     let mut work = [0.0f64; 8192];
-    let answer = library::probabilities(
-        d,
-        effects,
-        names,
-        values,
-        sequence,
-        &mut result,
-        &mut work,
-    );
-    printing::print_sheet(answer, &result);
+    let answer = library::probabilities(d, effects, names, values, sequence, &mut res, &mut work);
+    print_sheet(out, answer, &res);
 }
 
 // Room for the numbers of a call.
@@ -81,7 +89,7 @@ fn numbers_room() -> [f64; 512]
 }
 
 // The words of a call from place 3 on: v values, and the rest is the input.
-fn apply_call(call: &[u8], count: usize, n: u64, v: u64)
+fn apply_call<W: Write>(out: &mut Output<W>, call: &[u8], count: usize, n: u64, v: u64)
     requires { count * 8 ≤ length call.now }
 {
     if 512 < v {
@@ -99,11 +107,11 @@ fn apply_call(call: &[u8], count: usize, n: u64, v: u64)
     let mut input = numbers_room();
     numbers::load(call, 3, m, &mut values);
     numbers::load(call, 3 + m, inputs, &mut input);
-    answer_apply(n, &values[..m], &input[..inputs]);
+    answer_apply(out, n, &values[..m], &input[..inputs]);
 }
 
 // The values of a call from place 3 on.
-fn choi_call(call: &[u8], count: usize, n: u64)
+fn choi_call<W: Write>(out: &mut Output<W>, call: &[u8], count: usize, n: u64)
     requires { (3 ≤ count) × (count * 8 ≤ length call.now) }
 {
     let m = count - 3;
@@ -112,7 +120,7 @@ fn choi_call(call: &[u8], count: usize, n: u64)
     }
     let mut values = numbers_room();
     numbers::load(call, 3, m, &mut values);
-    answer_choi(n, &values[..m]);
+    answer_choi(out, n, &values[..m]);
 }
 
 // Room for a model's numbers, and for names or a sequence.
@@ -138,7 +146,15 @@ fn load_words(call: &[u8], from: usize, n: usize, out: &mut [u64])
 }
 
 // The words of a call from place `at` on: the count of numbers, the numbers, and the rest is the sequence.
-fn sequence_call(call: &[u8], count: usize, d: u64, effects: u64, names: &[u64], at: usize)
+fn sequence_call<W: Write>(
+    out: &mut Output<W>,
+    call: &[u8],
+    count: usize,
+    d: u64,
+    effects: u64,
+    names: &[u64],
+    at: usize,
+)
     requires { count * 8 ≤ length call.now }
 {
     if count <= at {
@@ -162,11 +178,17 @@ fn sequence_call(call: &[u8], count: usize, d: u64, effects: u64, names: &[u64],
     let mut sequence = words_room();
     numbers::load(call, first, m, &mut values);
     load_words(call, end, n, &mut sequence);
-    answer_probabilities(d, effects, names, &values[..m], &sequence[..n]);
+    answer_probabilities(out, d, effects, names, &values[..m], &sequence[..n]);
 }
 
 // The words of a call from place 3 on: the count of names, the names, and what follows them.
-fn probabilities_call(call: &[u8], count: usize, d: u64, effects: u64)
+fn probabilities_call<W: Write>(
+    out: &mut Output<W>,
+    call: &[u8],
+    count: usize,
+    d: u64,
+    effects: u64,
+)
     requires { count * 8 ≤ length call.now }
 {
     if count < 4 {
@@ -182,12 +204,12 @@ fn probabilities_call(call: &[u8], count: usize, d: u64, effects: u64)
     }
     let mut names = words_room();
     load_words(call, 4, g, &mut names);
-    sequence_call(call, count, d, effects, &names[..g], 4 + g);
+    sequence_call(out, call, count, d, effects, &names[..g], 4 + g);
 }
 
 // The entry (8 probes, 9 a setting, 10 a transfer matrix applied, 11 a Choi matrix, 12 probabilities), n or the dimension, then the index, the count of values or
 // that of effects.
-fn answer_call(call: &[u8]) {
+fn answer_call<W: Write>(out: &mut Output<W>, call: &[u8]) {
     let count = call.len() / 8;
     if count < 2 {
         return;
@@ -195,7 +217,7 @@ fn answer_call(call: &[u8]) {
     let entry = numbers::word_at(call, 0);
     let n = numbers::word_at(call, 1);
     if entry == 8 {
-        answer_probes(n);
+        answer_probes(out, n);
         return;
     }
     if count < 3 {
@@ -203,79 +225,81 @@ fn answer_call(call: &[u8]) {
     }
     let third = numbers::word_at(call, 2);
     if entry == 9 {
-        answer_setting(n, third);
+        answer_setting(out, n, third);
         return;
     }
     if entry == 11 {
-        choi_call(call, count, n);
+        choi_call(out, call, count, n);
         return;
     }
     if entry == 12 {
-        probabilities_call(call, count, n, third);
+        probabilities_call(out, call, count, n, third);
         return;
     }
-    apply_call(call, count, n, third);
+    apply_call(out, call, count, n, third);
 }
 
-// The next card of the file at the front of `card`: its length, or 65,538 at the end of the file.
-fn next(fd: i32, card: &mut [u8]) -> usize
+// The next card of the file at the front of `card`: its length, or `None` at the end of the file.
+fn next<R: Read>(file: &mut R, card: &mut [u8]) -> io::Result<Option<usize>>
     requires { length card.old ≡ 65537 }
+    ensures { IfOk result (λ found. IfSome found (λ n. n ≤ 65537)) }
 {
     let mut head = [0u8; 8];
-    let got = io::read_full(fd, &mut head);
+    let got = read_full(file, &mut head)?;
     if got < 8 {
-        return 65538;
+        return Ok(None);
     }
     let size = numbers::word_at(&head, 0);
     if 65537 < size {
-        return 65538;
+        return Ok(None);
     }
     let n = size as usize;
-    io::read_full(fd, &mut card[..n]);
-    n
+    read_full(file, &mut card[..n])?;
+    Ok(Some(n))
 }
 
-// One card of the file, as a sheet (0), a reading (1) or a call (2), or false at the end of the file.
-fn one(fd: i32, what: u64) -> bool {
+// One card of the file; whether there was one.
+fn one<R: Read, W: Write>(file: &mut R, out: &mut Output<W>, stored: Stored) -> io::Result<bool> {
     let mut card = card_buffer();
-    let n = next(fd, &mut card);
-    if 65537 < n {
-        return false;
-    }
-    if what == 0 {
-        answer_sheet(&card[..n]);
-        return true;
-    }
-    if what == 1 {
-        answer_reading(&card[..n]);
-        return true;
-    }
-    answer_call(&card[..n]);
-    true
-}
-
-fn all(fd: i32, what: u64) {
-    let mut turns: u64 = 100000;
-    while turns > 0 {
-        if !one(fd, what) {
-            return;
+    match next(file, &mut card)? {
+        None => Ok(false),
+        Some(n) => {
+            match stored {
+                Stored::Sheets => answer_sheet(out, &card[..n]),
+                Stored::Readings => answer_reading(out, &card[..n]),
+                Stored::Calls => answer_call(out, &card[..n]),
+            }
+            Ok(true)
         }
-        turns = turns - 1;
     }
 }
 
-fn replay(path: &[u8], what: u64) {
-    let fd = os::open_read(path);
-    if fd < 0 {
-        os::fail(path);
-        return;
+fn all<R: Read, W: Write>(file: &mut R, out: &mut Output<W>, stored: Stored) -> io::Result<()> {
+    for _ in 0..100000 {
+        if !one(file, out, stored)? {
+            return Ok(());
+        }
     }
-    all(fd, what);
-    libc::close(fd);
+    Ok(())
 }
 
-fn main() {
-    replay(b"cards", 0);
-    replay(b"readings", 1);
-    replay(b"calls", 2);
+// A file that cannot be opened is told of, and passed over.
+fn replay<R: Files + Eprint, W: Write>(
+    rt: &R,
+    out: &mut Output<W>,
+    path: &str,
+    stored: Stored,
+) -> io::Result<()> {
+    match File::open(rt, path) {
+        Ok(mut file) => all(&mut file, out, stored),
+        Err(e) => eprintln!(rt; "{path}: {e}"),
+    }
+}
+
+fn main(rt: HostRuntime) -> io::Result<()> {
+    let mut out = Output::new(rt.stdout());
+    replay(&rt, &mut out, "cards", Stored::Sheets)?;
+    replay(&rt, &mut out, "readings", Stored::Readings)?;
+    replay(&rt, &mut out, "calls", Stored::Calls)?;
+    out.finish()
 }

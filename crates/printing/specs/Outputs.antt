@@ -1,0 +1,17 @@
+-- What an output has done with the text that it was given.
+use Rattle.std.specs.Prelude.{ℕ, List, IsNone}
+use Rattle.std.specs.declared.option.Option.{Option}
+use Rattle.std.specs.Io.KnownBytes.{Appends}
+use Rattle.printing.specs.declared.output.Output.{Output}
+
+abbrev pub writer_of : {W : Type 0} → Output W → W
+writer_of o = o.writer
+
+-- no write has failed
+abbrev pub IsWhole : {W : Type 0} → Output W → Type 0
+IsWhole o = IsNone o.error
+
+-- where no write has failed by p, none had by o, and in between the writer was given bs and nothing else
+pub record Writes {W : Type 0} (contents : W → Option (List ℕ)) (o p : Output W) (bs : List ℕ) : Type 0 where
+  pub whole : IsWhole p → IsWhole o
+  pub text : IsWhole p → Appends (contents (writer_of o)) (contents (writer_of p)) bs
