@@ -1,5 +1,5 @@
 use native.Mathlib.Numerals.{add-one-le, add-one-dec}
-use mathlib.Core.Path.{◌∙◌, refl}
+use mathlib.Core.Path.{refl}
 use native.Mathlib.Omega.{arith}
 use Rattle.lists.proofs.Folding.{fold-none, fold_more, fold_end}
 use Rattle.lists.proofs.Parts.{entry-fits}
@@ -28,7 +28,7 @@ pub loop-j-preserved : goal.loop-j-preserved
 loop-j-preserved c =
     let l = c.loop-j in
     let s = c.args in
-    (add-one-le c.loop-j-test.true, c.out-1.given ∙ l.invariant.1, fold_more _ _ _ _ _ l.invariant.2 (entry-added s.n s.x (entries s.u.now) s.i l.j (entries l.out) _ _ _ _ _ c.read-sum.ensures c.get-y.ensures c.times.ensures c.plus.ensures c.write.ensures))
+    (add-one-le c.loop-j-test.true, omega arith, fold_more _ _ _ _ _ l.invariant.2 (entry-added s.n s.x (entries s.u.now) s.i l.j (entries l.out) _ _ _ _ _ c.read-sum.ensures c.get-y.ensures c.times.ensures c.plus.ensures c.write.ensures))
 
 pub shape_of-out : goal.shape_of-out
 shape_of-out c = c.loop-j.invariant.1

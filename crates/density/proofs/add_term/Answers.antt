@@ -22,7 +22,7 @@ read-x-requires c =
 
 pub add_row-requires : goal.add_row-requires
 add_row-requires c =
-    (c.u-1.given ∙ c.requires.1, c.loop-i.invariant.1 ∙ c.requires.2, c.loop-i-test.true)
+    (omega arith, c.loop-i.invariant.1 ∙ c.requires.2, c.loop-i-test.true)
 
 pub loop-i-smaller : goal.loop-i-smaller
 loop-i-smaller c = add-one-dec _ _ c.loop-i-test.true
@@ -31,10 +31,7 @@ pub loop-i-preserved : goal.loop-i-preserved
 loop-i-preserved c =
     let l = c.loop-i in
     let s = c.args in
-    (add-one-le c.loop-i-test.true, c.out-1.given ∙ l.invariant.1, fold_more _ _ _ _ _ l.invariant.2 (row-added s.n (entries s.v.now) s.k s.p _ l.i _ _ (entries l.out) _ c.conjugate_column.ensures c.read-x.ensures c.scaled.ensures c.add_row.ensures))
-
-pub shape_of-u : goal.shape_of-u
-shape_of-u c = c.u-1.given
+    (add-one-le c.loop-i-test.true, omega arith, fold_more _ _ _ _ _ l.invariant.2 (row-added s.n (entries s.v.now) s.k s.p _ l.i _ _ (entries l.out) _ c.conjugate_column.ensures c.read-x.ensures c.scaled.ensures c.add_row.ensures))
 
 pub shape_of-out : goal.shape_of-out
 shape_of-out c = c.loop-i.invariant.1

@@ -1,5 +1,5 @@
 use native.Mathlib.Numerals.{add-one-le, add-one-dec}
-use mathlib.Core.Path.{◌∙◌, refl}
+use mathlib.Core.Path.{refl}
 use native.Mathlib.Omega.{arith}
 use Rattle.lists.proofs.Filling.{fill_none}
 use Rattle.lists.proofs.Parts.{entry-fits}
@@ -22,7 +22,7 @@ loop-j-smaller c = add-one-dec _ _ c.loop-j-test.true
 pub loop-j-preserved : goal.loop-j-preserved
 loop-j-preserved c =
     let l = c.loop-j.invariant in
-    (add-one-le c.loop-j-test.true, c.u-1.given ∙ l.1, column-more c.args.n (entries c.args.v.now) c.args.k _ _ _ _ _ _ (omega (arith, length-entries c.args.n c.args.u.now c.requires.1)) l.2 c.read.ensures c.conjugate.ensures c.put.ensures)
+    (add-one-le c.loop-j-test.true, omega arith, column-more c.args.n (entries c.args.v.now) c.args.k _ _ _ _ _ _ (omega (arith, length-entries c.args.n c.args.u.now c.requires.1)) l.2 c.read.ensures c.conjugate.ensures c.put.ensures)
 
 pub shape_of-u : goal.shape_of-u
 shape_of-u c = c.loop-j.invariant.1

@@ -21,7 +21,7 @@ loop-i-smaller c = add-one-dec _ _ c.loop-i-test.true
 pub loop-i-preserved : goal.loop-i-preserved
 loop-i-preserved c =
     let l = c.loop-i.invariant in
-    (add-one-le c.loop-i-test.true, c.h-1.given ∙ l.1, fold_more _ _ _ _ _ l.2 c.halve_row.ensures)
+    (add-one-le c.loop-i-test.true, omega arith, fold_more _ _ _ _ _ l.2 c.halve_row.ensures)
 
 pub shape_of-h : goal.shape_of-h
 shape_of-h c = c.loop-i.invariant.1

@@ -1,5 +1,5 @@
 use native.Mathlib.Numerals.{add-one-le, add-one-dec}
-use mathlib.Core.Path.{◌∙◌, refl}
+use mathlib.Core.Path.{refl}
 use native.Mathlib.Omega.{arith}
 use Rattle.lists.proofs.Folding.{fold-none, fold_more, fold_end}
 use Rattle.lists.proofs.Parts.{entry-fits}
@@ -24,7 +24,7 @@ pub loop-j-preserved : goal.loop-j-preserved
 loop-j-preserved c =
     let l = c.loop-j in
     let s = c.args in
-    (add-one-le c.loop-j-test.true, c.h-1.given ∙ l.invariant.1, fold_more _ _ _ _ _ l.invariant.2 (put-laid s.n (halved_at s.n (entries s.e.now)) s.i l.j (entries l.h) _ _ c.write.ensures c.halved_at.ensures))
+    (add-one-le c.loop-j-test.true, omega arith, fold_more _ _ _ _ _ l.invariant.2 (put-laid s.n (halved_at s.n (entries s.e.now)) s.i l.j (entries l.h) _ _ c.write.ensures c.halved_at.ensures))
 
 pub shape_of-h : goal.shape_of-h
 shape_of-h c = c.loop-j.invariant.1

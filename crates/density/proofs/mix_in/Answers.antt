@@ -14,7 +14,7 @@ loop-k-init c = (search rules, refl, refl, fold-none _ _)
 pub add_term-requires : goal.add_term-requires
 add_term-requires c =
     let l = c.loop-k.invariant in
-    (c.requires.0, l.1 ∙ c.requires.2, l.2 ∙ c.out-1.given ∙ c.requires.3, c.loop-k-test.true)
+    (c.requires.0, l.1 ∙ c.requires.2, omega arith, c.loop-k-test.true)
 
 pub loop-k-smaller : goal.loop-k-smaller
 loop-k-smaller c = add-one-dec _ _ c.loop-k-test.true
@@ -22,13 +22,10 @@ loop-k-smaller c = add-one-dec _ _ c.loop-k-test.true
 pub loop-k-preserved : goal.loop-k-preserved
 loop-k-preserved c =
     let l = c.loop-k.invariant in
-    (add-one-le c.loop-k-test.true, c.u-1.given ∙ l.1, c.out-in-loop-k-1.given ∙ l.2, fold_more _ _ _ _ _ l.3 c.add_term.ensures)
+    (add-one-le c.loop-k-test.true, omega arith, omega arith, fold_more _ _ _ _ _ l.3 c.add_term.ensures)
 
 pub shape_of-u : goal.shape_of-u
 shape_of-u c = c.loop-k.invariant.1
-
-pub shape_of-out : goal.shape_of-out
-shape_of-out c = c.loop-k.invariant.2 ∙ c.out-1.given
 
 pub returns : goal.returns
 returns c =

@@ -31,8 +31,5 @@ project_onto-requires c =
     let e = ap (λ (m : ℕ). 2 * m) c.square-parts.ensures.0 in
     (c.requires.0, length-take-le _ _ (omega (arith, q)) ∙ e, length-take-le _ _ (search rules), length-take-le _ _ (omega (arith, q)) ∙ e, c.requires.1, c.requires.2, c.requires.3)
 
-pub shape_of-out : goal.shape_of-out
-shape_of-out c = c.out-1.given
-
 pub returns : goal.returns
 returns c = c.project_onto.ensures

@@ -36,9 +36,6 @@ pub weigh_both-requires : goal.weigh_both-requires
 weigh_both-requires c =
     (c.requires.0, c.requires.1.there, c.requires.2, c.requires.3, sym c.check_sequence-found.ensures ∙ c.in-Good.is, c.requires.5, c.requires.6, c.requires.7)
 
-pub shape_of-sequence-in-Refused : goal.shape_of-sequence-in-Refused
-shape_of-sequence-in-Refused c = c.load_sequence.auto.out
-
 pub returns-in-Refused : goal.returns-in-Refused
 returns-in-Refused c =
     let check-sequence = c.check_sequence-found.ensures in
@@ -46,18 +43,6 @@ returns-in-Refused c =
     let log = ln_by (at a.quotients.now) (at a.remainders.now) in
     let q = front-again _ _ c.load_sequence.ensures (sym c.sequence_length-n.ensures) in
     (absent log false a.tolerance a.card.now a.h a.model.now a.r _ _ q check-sequence _ c.in-Refused.is a.b.first _ c.refuse_onward-first.ensures, absent log false a.tolerance a.card.now a.h a.other.now a.r _ _ q check-sequence _ c.in-Refused.is a.b.second _ c.refuse_onward-second.ensures)
-
-pub shape_of-sequence-in-Good : goal.shape_of-sequence-in-Good
-shape_of-sequence-in-Good c = c.load_sequence.auto.out
-
-pub shape_of-counts : goal.shape_of-counts
-shape_of-counts c = c.weigh_both.auto.counts
-
-pub shape_of-ps : goal.shape_of-ps
-shape_of-ps c = c.weigh_both.auto.ps
-
-pub shape_of-qs : goal.shape_of-qs
-shape_of-qs c = c.weigh_both.auto.qs
 
 pub returns-in-Good : goal.returns-in-Good
 returns-in-Good c =

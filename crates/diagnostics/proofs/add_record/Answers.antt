@@ -34,20 +34,8 @@ pub weigh_record-requires : goal.weigh_record-requires
 weigh_record-requires c =
     (c.requires.0, c.requires.1.there, c.requires.2, sym c.check_sequence-found.ensures ∙ c.in-Good.is, c.requires.4, c.requires.5)
 
-pub shape_of-sequence-in-Refused : goal.shape_of-sequence-in-Refused
-shape_of-sequence-in-Refused c = c.load_sequence.auto.out
-
 pub returns-in-Refused : goal.returns-in-Refused
 returns-in-Refused c = absent _ _ _ _ _ _ _ _ _ (front-again _ _ c.load_sequence.ensures (sym c.sequence_length-n.ensures)) c.check_sequence-found.ensures _ c.in-Refused.is (Fit _) _ refl
-
-pub shape_of-sequence-in-Good : goal.shape_of-sequence-in-Good
-shape_of-sequence-in-Good c = c.load_sequence.auto.out
-
-pub shape_of-counts : goal.shape_of-counts
-shape_of-counts c = c.weigh_record.auto.counts
-
-pub shape_of-ps : goal.shape_of-ps
-shape_of-ps c = c.weigh_record.auto.ps
 
 pub returns-in-Good : goal.returns-in-Good
 returns-in-Good c = present _ _ _ _ _ _ _ _ _ (front-again _ _ c.load_sequence.ensures (sym c.sequence_length-n.ensures)) c.check_sequence-found.ensures c.in-Good.is (Fit _) _ c.weigh_record.ensures

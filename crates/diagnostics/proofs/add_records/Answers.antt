@@ -28,15 +28,6 @@ loop-r-preserved c =
     let v = c.loop-r.invariant in
     (add-one-le c.loop-r-test.true, record-onward.auto.sequence ∙ v.1, record-onward.auto.counts ∙ v.2, record-onward.auto.ps ∙ v.3, fold_more _ _ _ _ _ v.4 record-onward.ensures)
 
-pub shape_of-sequence : goal.shape_of-sequence
-shape_of-sequence c = c.loop-r.invariant.1
-
-pub shape_of-counts : goal.shape_of-counts
-shape_of-counts c = c.loop-r.invariant.2
-
-pub shape_of-ps : goal.shape_of-ps
-shape_of-ps c = c.loop-r.invariant.3
-
 pub returns : goal.returns
 unfolding likelihood_by
 returns c = fold_end _ _ _ _ _ (turn_last _ _ _ c.loop-r-test.false c.loop-r.invariant.0 refl) c.loop-r.invariant.4

@@ -29,18 +29,6 @@ loop-r-preserved c =
     let v = c.loop-r.invariant in
     (add-one-le c.loop-r-test.true, both-onward.auto.sequence ∙ v.1, both-onward.auto.counts ∙ v.2, both-onward.auto.ps ∙ v.3, both-onward.auto.qs ∙ v.4, fold_more _ _ _ _ _ v.5 both-onward.ensures.0, fold_more _ _ _ _ _ v.6 both-onward.ensures.1)
 
-pub shape_of-sequence : goal.shape_of-sequence
-shape_of-sequence c = c.loop-r.invariant.1
-
-pub shape_of-counts : goal.shape_of-counts
-shape_of-counts c = c.loop-r.invariant.2
-
-pub shape_of-ps : goal.shape_of-ps
-shape_of-ps c = c.loop-r.invariant.3
-
-pub shape_of-qs : goal.shape_of-qs
-shape_of-qs c = c.loop-r.invariant.4
-
 pub returns : goal.returns
 unfolding likelihood_by
 returns c =

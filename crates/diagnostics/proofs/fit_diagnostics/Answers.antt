@@ -35,8 +35,5 @@ pub add_records-requires : goal.add_records-requires
 add_records-requires c =
     (c.requires.0, c.requires.1, (c.requires.2, columns-lent _ _ _ _ _ _ c.gates_by_columns.ensures), room-new _ _ c.sequence_room-sequence.ensures, room-new _ _ c.counts_room-counts.ensures, room-new _ _ c.probabilities_room-ps.ensures)
 
-pub shape_of-columns : goal.shape_of-columns
-shape_of-columns c = c.gates_by_columns.auto.out
-
 pub returns : goal.returns
 returns c = (by-logarithm _ _ c.tables-t.ensures _ _ _ _ _ _ c.add_records.ensures, columns-over _ _ _ _ _ _ c.gates_by_columns.ensures)

@@ -48,12 +48,6 @@ pub add_records_both-requires : goal.add_records_both-requires
 add_records_both-requires c =
     (c.requires.0, c.requires.1, (c.requires.2, columns-lent _ _ _ _ _ _ c.gates_by_columns.ensures), (c.requires.3, columns-lent _ _ _ _ _ _ c.gates_by_columns-2.ensures), room-new _ _ c.sequence_room-sequence.ensures, room-new _ _ c.counts_room-counts.ensures, room-new _ _ c.probabilities_room-ps.ensures, room-new _ _ c.probabilities_room-qs.ensures)
 
-pub shape_of-columns : goal.shape_of-columns
-shape_of-columns c = c.gates_by_columns.auto.out
-
-pub shape_of-others : goal.shape_of-others
-shape_of-others c = c.gates_by_columns-2.auto.out
-
 pub returns : goal.returns
 returns c =
     let tables = c.tables-t.ensures in

@@ -2,15 +2,6 @@ use mathlib.Core.Path.{sym, ap, ◌∙◌}
 use Rattle.likelihood.specs.Multinomial.{onward}
 use Rattle.diagnostics.proofs.record_onward.Goals as goal
 
-pub shape_of-sequence : goal.shape_of-sequence
-shape_of-sequence c = c.add_record.auto.sequence
-
-pub shape_of-counts : goal.shape_of-counts
-shape_of-counts c = c.add_record.auto.counts
-
-pub shape_of-ps : goal.shape_of-ps
-shape_of-ps c = c.add_record.auto.ps
-
 pub returns-in-Fit : goal.returns-in-Fit
 returns-in-Fit c = c.add_record.ensures ∙ ap (onward _) (sym c.in-Fit.is)
 

@@ -48,15 +48,6 @@ weigh_each-requires c =
     let probabilities-both = c.probabilities_both.ensures in
     (one-for-each _ _ _ _ _ _ c.requires.2.1 c.requires.4 _ _ _ _ load-counts probabilities-both.0, one-for-each _ _ _ _ _ _ c.requires.3.1 c.requires.4 _ _ _ _ load-counts probabilities-both.1)
 
-pub shape_of-counts : goal.shape_of-counts
-shape_of-counts c = c.load_counts.auto.out
-
-pub shape_of-ps : goal.shape_of-ps
-shape_of-ps c = c.probabilities_both.auto.out
-
-pub shape_of-qs : goal.shape_of-qs
-shape_of-qs c = c.probabilities_both.auto.also
-
 pub returns : goal.returns
 returns c =
     let a = c.args in

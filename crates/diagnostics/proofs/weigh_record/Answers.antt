@@ -35,12 +35,6 @@ pub with_record-requires : goal.with_record-requires
 with_record-requires c =
     one-for-each _ _ _ _ _ _ c.requires.2.1 c.requires.3 _ _ _ _ c.load_counts.ensures c.probabilities.ensures
 
-pub shape_of-counts : goal.shape_of-counts
-shape_of-counts c = c.load_counts.auto.out
-
-pub shape_of-ps : goal.shape_of-ps
-shape_of-ps c = c.probabilities.auto.out
-
 pub returns : goal.returns
 returns c =
     weighed _ _ _ _ _ _ c.requires.2.1 c.requires.3 _ _ _ _ c.load_counts.ensures c.probabilities.ensures _ _ _ (Fit _) _ c.with_record.ensures

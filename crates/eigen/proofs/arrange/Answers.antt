@@ -1,3 +1,4 @@
+use native.Mathlib.Omega.{arith}
 use mathlib.Core.Path.{sym, ◌∙◌, ap}
 use mathlib.Core.List.{List}
 use Prim.Native.Nat.{ℕ}
@@ -13,19 +14,7 @@ ascend-requires c =
 
 pub columns-requires : goal.columns-requires
 columns-requires c =
-    (c.requires.0, c.requires.1, le_of_eq (sym (c.order-1.given ∙ c.requires.4)), order-under _ _ _ c.ascend.ensures.0)
-
-pub shape_of-a : goal.shape_of-a
-shape_of-a c = c.a-1.given
-
-pub shape_of-w : goal.shape_of-w
-shape_of-w c = c.w-1.given
-
-pub shape_of-d : goal.shape_of-d
-shape_of-d c = c.d-1.given
-
-pub shape_of-order : goal.shape_of-order
-shape_of-order c = c.order-1.given
+    (c.requires.0, c.requires.1, le_of_eq (sym (omega arith)), order-under _ _ _ c.ascend.ensures.0)
 
 pub returns : goal.returns
 returns c =

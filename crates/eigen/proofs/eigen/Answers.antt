@@ -40,11 +40,5 @@ eigen_in-requires c =
     let a = c.args in
     (c.requires.0, c.requires.1, length-take-le _ _ (parts-fit a.n _ c.requires.3 c.matrix_room-v.ensures), c.requires.2, length-take-le _ _ (square-fits a.n _ c.requires.3 c.room-bounds.ensures), length-take-le _ _ (square-fits a.n _ c.requires.3 c.room-sizes.ensures), length-take-le _ _ (rows_fit a.n _ c.requires.3 c.places-order.ensures))
 
-pub shape_of-a : goal.shape_of-a
-shape_of-a c = c.a-1.given
-
-pub shape_of-w : goal.shape_of-w
-shape_of-w c = c.w-1.given
-
 pub returns : goal.returns
 returns c = c.eigen_in.ensures

@@ -65,9 +65,6 @@ eigenvalues_in-requires c =
     let matrix-room = c.matrix_room-m in
     (copy-long (2 * (a.n * a.n)) matrix-room.result a.a.now _ (parts-fit a.n _ c.requires.3 matrix-room.ensures) c.requires.0 c.put_row.ensures, c.requires.1, search rules, c.requires.2, length-take-le _ _ (square-fits a.n _ c.requires.3 c.room-bounds.ensures), length-take-le _ _ (square-fits a.n _ c.requires.3 c.room-sizes.ensures), length-take-le _ _ (rows_fit a.n _ c.requires.3 c.places-order.ensures))
 
-pub shape_of-w : goal.shape_of-w
-shape_of-w c = c.w-1.given
-
 pub returns : goal.returns
 returns c =
     let a = c.args in

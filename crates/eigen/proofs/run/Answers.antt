@@ -17,7 +17,7 @@ scale-requires c = c.requires.0
 
 pub loop-left-init : goal.loop-left-init
 loop-left-init c =
-    (c.requires.0, c.requires.1, c.bounds-1.given ∙ c.requires.2, c.sizes-1.given ∙ c.requires.3, kept-measured _ _ _ _ (c.requires.2, c.requires.3) c.measure.ensures, refl)
+    (c.requires.0, c.requires.1, omega arith, omega arith, kept-measured _ _ _ _ (c.requires.2, c.requires.3) c.measure.ensures, refl)
 
 pub find-g-requires : goal.find-g-requires
 find-g-requires c =
@@ -30,12 +30,6 @@ shape_of-a-then-g-limit c = c.loop-left.invariant.0 ∙ sym c.requires.0
 pub shape_of-v-then-g-limit : goal.shape_of-v-then-g-limit
 shape_of-v-then-g-limit c = c.loop-left.invariant.1 ∙ sym c.requires.1
 
-pub shape_of-bounds-then-g-limit : goal.shape_of-bounds-then-g-limit
-shape_of-bounds-then-g-limit c = c.bounds-in-loop-left-1.given ∙ c.loop-left.invariant.2 ∙ sym c.requires.2
-
-pub shape_of-sizes-then-g-limit : goal.shape_of-sizes-then-g-limit
-shape_of-sizes-then-g-limit c = c.sizes-in-loop-left-1.given ∙ c.loop-left.invariant.3 ∙ sym c.requires.3
-
 pub returns-then-g-limit : goal.returns-then-g-limit
 unfolding ran
 returns-then-g-limit c =
@@ -47,7 +41,7 @@ pub step-requires : goal.step-requires
 step-requires c =
     let l = c.loop-left in
     let w = search-within c.args.n (entries l.a) (notes l.bounds l.sizes) _ _ _ c.requires.4 (l.invariant.2, l.invariant.3) l.invariant.4 c.find-g.ensures in
-    (l.invariant.0, l.invariant.1, c.bounds-in-loop-left-1.given ∙ l.invariant.2, c.sizes-in-loop-left-1.given ∙ l.invariant.3, w.0, w.1)
+    (l.invariant.0, l.invariant.1, omega arith, omega arith, w.0, w.1)
 
 pub overflow_sub-left : goal.overflow_sub-left
 overflow_sub-left c = c.loop-left-test.true
@@ -59,10 +53,8 @@ pub loop-left-preserved : goal.loop-left-preserved
 loop-left-preserved c =
     let a = c.args in
     let l = c.loop-left in
-    let bounds2 = c.bounds-in-loop-left-1.given in
-    let sizes2 = c.sizes-in-loop-left-1.given in
-    let t = search-turned a.r a.n _ l.left (entries l.a) (entries l.v) (notes l.bounds l.sizes) _ _ _ _ _ _ _ c.requires.4 (l.invariant.2, l.invariant.3) l.invariant.4 c.find-g.ensures (bounds2 ∙ l.invariant.2, sizes2 ∙ l.invariant.3) c.loop-left-test.true c.if-g-limit.false c.step.ensures l.invariant.5 in
-    (c.a-1.given ∙ l.invariant.0, c.v-1.given ∙ l.invariant.1, c.bounds-in-loop-left-2-1.given ∙ bounds2 ∙ l.invariant.2, c.sizes-in-loop-left-2-1.given ∙ sizes2 ∙ l.invariant.3, t.0, t.1)
+    let t = search-turned a.r a.n _ l.left (entries l.a) (entries l.v) (notes l.bounds l.sizes) _ _ _ _ _ _ _ c.requires.4 (l.invariant.2, l.invariant.3) l.invariant.4 c.find-g.ensures (omega arith, omega arith) c.loop-left-test.true c.if-g-limit.false c.step.ensures l.invariant.5 in
+    (omega arith, omega arith, omega arith, omega arith, t.0, t.1)
 
 pub shape_of-a : goal.shape_of-a
 shape_of-a c = c.loop-left.invariant.0 ∙ sym c.requires.0

@@ -1,4 +1,4 @@
-use mathlib.Core.Path.{◌∙◌}
+use native.Mathlib.Omega.{arith}
 use Rattle.eigen.proofs.Running.{turn-place, stepped}
 use Rattle.eigen.proofs.step.Goals as goal
 
@@ -16,23 +16,11 @@ turn_columns-requires c =
 
 pub renote-requires : goal.renote-requires
 renote-requires c =
-    (c.a-1.given ∙ c.requires.0, c.requires.2, c.requires.3, c.requires.4)
+    (omega arith, c.requires.2, c.requires.3, c.requires.4)
 
 pub renote-requires-2 : goal.renote-requires-2
 renote-requires-2 c =
-    (c.a-1.given ∙ c.requires.0, c.bounds-1.given ∙ c.requires.2, c.sizes-1.given ∙ c.requires.3, c.requires.5)
-
-pub shape_of-a : goal.shape_of-a
-shape_of-a c = c.a-1.given
-
-pub shape_of-v : goal.shape_of-v
-shape_of-v c = c.v-1.given
-
-pub shape_of-bounds : goal.shape_of-bounds
-shape_of-bounds c = c.bounds-2-1.given ∙ c.bounds-1.given
-
-pub shape_of-sizes : goal.shape_of-sizes
-shape_of-sizes c = c.sizes-2-1.given ∙ c.sizes-1.given
+    (omega arith, omega arith, omega arith, c.requires.5)
 
 pub returns : goal.returns
 returns c = stepped _ _ _ _ _ _ _ _ _ _ _ c.turn_of-t.ensures c.rotate.ensures c.turn_columns.ensures c.renote.ensures c.renote-2.ensures

@@ -28,24 +28,6 @@ evaluate_both-p-requires c =
     let s = c.requires in
     (s.0, s.1, c.put_probe.auto.probed ∙ s.3, c.put_probe-2.auto.probed ∙ s.4)
 
-pub shape_of-right : goal.shape_of-right
-shape_of-right c = c.put_probe.auto.probed
-
-pub shape_of-model : goal.shape_of-model
-shape_of-model c = c.evaluate_both-p.auto.model
-
-pub shape_of-columns : goal.shape_of-columns
-shape_of-columns c = c.evaluate_both-p.auto.columns
-
-pub shape_of-left : goal.shape_of-left
-shape_of-left c = c.put_probe-2.auto.probed
-
-pub shape_of-other : goal.shape_of-other
-shape_of-other c = c.evaluate_both-p.auto.other
-
-pub shape_of-others : goal.shape_of-others
-shape_of-others c = c.evaluate_both-p.auto.others
-
 pub returns : goal.returns
 unfolding of_bits
 returns c =

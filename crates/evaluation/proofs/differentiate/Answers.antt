@@ -26,27 +26,6 @@ pub bounds-g-i : goal.bounds-g-i
 bounds-g-i c =
     turn-of _ _ _ c.loop-i-test.true (c.requires.2 ∙ sym (c.loop-i.invariant.1 ∙ c.requires.3))
 
-pub shape_of-g-in-Unusable : goal.shape_of-g-in-Unusable
-shape_of-g-in-Unusable c = c.loop-i.invariant.1
-
-pub shape_of-right-in-Unusable : goal.shape_of-right-in-Unusable
-shape_of-right-in-Unusable c = c.derivative-d.auto.right ∙ c.loop-i.invariant.2
-
-pub shape_of-model-in-Unusable : goal.shape_of-model-in-Unusable
-shape_of-model-in-Unusable c = c.derivative-d.auto.model ∙ c.loop-i.invariant.3
-
-pub shape_of-columns-in-Unusable : goal.shape_of-columns-in-Unusable
-shape_of-columns-in-Unusable c = c.derivative-d.auto.columns ∙ c.loop-i.invariant.4
-
-pub shape_of-left-in-Unusable : goal.shape_of-left-in-Unusable
-shape_of-left-in-Unusable c = c.derivative-d.auto.left ∙ c.loop-i.invariant.5
-
-pub shape_of-other-in-Unusable : goal.shape_of-other-in-Unusable
-shape_of-other-in-Unusable c = c.derivative-d.auto.other ∙ c.loop-i.invariant.6
-
-pub shape_of-others-in-Unusable : goal.shape_of-others-in-Unusable
-shape_of-others-in-Unusable c = c.derivative-d.auto.others ∙ c.loop-i.invariant.7
-
 pub returns-in-Unusable : goal.returns-in-Unusable
 unfolding gradient
 returns-in-Unusable c =
@@ -68,27 +47,6 @@ loop-i-preserved c =
     let l = c.loop-i in
     let s = c.args in
     (add-one-le loop-test, length-set l.g l.i _ ∙ l.invariant.1, derivative-2.auto.right ∙ l.invariant.2, derivative-2.auto.model ∙ l.invariant.3, derivative-2.auto.columns ∙ l.invariant.4, derivative-2.auto.left ∙ l.invariant.5, derivative-2.auto.other ∙ l.invariant.6, derivative-2.auto.others ∙ l.invariant.7, slopes-more (derivative (job_by s.card.now s.h s.places.now s.c) s.xs.now s.o) l.i l.g _ _ l.invariant.8 derivative-2.ensures c.in-Slope.is (turn-of _ _ _ loop-test (c.requires.2 ∙ sym (l.invariant.1 ∙ c.requires.3))))
-
-pub shape_of-g : goal.shape_of-g
-shape_of-g c = c.loop-i.invariant.1
-
-pub shape_of-right : goal.shape_of-right
-shape_of-right c = c.loop-i.invariant.2
-
-pub shape_of-model : goal.shape_of-model
-shape_of-model c = c.loop-i.invariant.3
-
-pub shape_of-columns : goal.shape_of-columns
-shape_of-columns c = c.loop-i.invariant.4
-
-pub shape_of-left : goal.shape_of-left
-shape_of-left c = c.loop-i.invariant.5
-
-pub shape_of-other : goal.shape_of-other
-shape_of-other c = c.loop-i.invariant.6
-
-pub shape_of-others : goal.shape_of-others
-shape_of-others c = c.loop-i.invariant.7
 
 pub returns : goal.returns
 unfolding gradient

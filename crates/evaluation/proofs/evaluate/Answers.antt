@@ -21,12 +21,6 @@ pub score-requires : goal.score-requires
 score-requires c =
     (c.requires.0.anchored, c.requires.1)
 
-pub shape_of-model : goal.shape_of-model
-shape_of-model c = c.fill.auto.model
-
-pub shape_of-columns : goal.shape_of-columns
-shape_of-columns c = c.fit_diagnostics-l.auto.columns
-
 pub returns : goal.returns
 returns c =
     let fill = c.fill in

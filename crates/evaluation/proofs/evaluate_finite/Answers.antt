@@ -25,18 +25,6 @@ pub score-left-requires : goal.score-left-requires
 score-left-requires c =
     (c.requires.0.anchored, c.requires.3)
 
-pub shape_of-model : goal.shape_of-model
-shape_of-model c = c.fill.auto.model
-
-pub shape_of-columns : goal.shape_of-columns
-shape_of-columns c = c.fit_diagnostics_both-b.auto.columns
-
-pub shape_of-other : goal.shape_of-other
-shape_of-other c = c.fill-2.auto.model
-
-pub shape_of-others : goal.shape_of-others
-shape_of-others c = c.fit_diagnostics_both-b.auto.others
-
 pub returns : goal.returns
 returns c =
     let fit-diagnostics-both = c.fit_diagnostics_both-b.ensures in

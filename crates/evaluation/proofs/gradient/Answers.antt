@@ -32,18 +32,6 @@ differentiate-requires c =
     let s = c.requires in
     (s.0, record { placed = s.0.placed; anchored = s.0.anchored; model_room = length-take-le _ _ (fits-room _ _ _ _ refl model-numbers.1 c.model_room-other.ensures) ∙ model-numbers.0; columns_room = fits-room _ _ _ _ refl (gates-most c.args.h s.0.placed.shaped.limits) c.columns_room-others.ensures }, s.1, s.2, s.3, length-take-le _ _ (fits-room _ _ _ _ s.1 s.0.placed.few c.probe_room-left.ensures) ∙ s.1)
 
-pub shape_of-g : goal.shape_of-g
-shape_of-g c = c.differentiate.auto.g
-
-pub shape_of-probed : goal.shape_of-probed
-shape_of-probed c = c.differentiate.auto.right
-
-pub shape_of-model : goal.shape_of-model
-shape_of-model c = c.differentiate.auto.model
-
-pub shape_of-columns : goal.shape_of-columns
-shape_of-columns c = c.differentiate.auto.columns
-
 pub returns : goal.returns
 returns c =
     let differentiate = c.differentiate in

@@ -10,23 +10,11 @@ pub show-requires : goal.show-requires
 show-requires c =
     (c.requires.0.placed, c.slope_at-found.auto.model ∙ c.requires.0.model_room, omega (arith, c.slope_at-found.auto.columns, c.requires.0.columns_room), c.requires.1)
 
-pub shape_of-model-in-Norm : goal.shape_of-model-in-Norm
-shape_of-model-in-Norm c = c.show.auto.model ∙ c.slope_at-found.auto.model
-
-pub shape_of-columns-in-Norm : goal.shape_of-columns-in-Norm
-shape_of-columns-in-Norm c = c.show.auto.columns ∙ c.slope_at-found.auto.columns
-
 pub returns-in-Norm : goal.returns-in-Norm
 returns-in-Norm c =
     let show = c.show.ensures in
     let J = job_by c.args.card.now c.args.h c.args.places.now c.args.c in
     closes J c.args.initial c.args.stop (point_of (length c.args.places.now) c.args.r) _ _ _ _ _ (subst (Sloped J (point_of (length c.args.places.now) c.args.r) _) c.in-Norm.is c.slope_at-found.ensures.0) c.reason-k.ensures show.0 show.1
-
-pub shape_of-model-in-Unusable : goal.shape_of-model-in-Unusable
-shape_of-model-in-Unusable c = c.slope_at-found.auto.model
-
-pub shape_of-columns-in-Unusable : goal.shape_of-columns-in-Unusable
-shape_of-columns-in-Unusable c = c.slope_at-found.auto.columns
 
 pub returns-in-Unusable : goal.returns-in-Unusable
 returns-in-Unusable c =

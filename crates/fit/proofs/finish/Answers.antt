@@ -11,22 +11,10 @@ stop_at-requires c =
     let J = job_by c.args.card.now c.args.h c.args.places.now c.args.c in
     (c.requires.0, c.requires.1, subst (Normed J (point_of (length c.args.places.now) c.args.r) c.args.r.norm) c.in-Stopped.is c.requires.2)
 
-pub shape_of-model-in-Going : goal.shape_of-model-in-Going
-shape_of-model-in-Going c = c.close.auto.model
-
-pub shape_of-columns-in-Going : goal.shape_of-columns-in-Going
-shape_of-columns-in-Going c = c.close.auto.columns
-
 pub returns-in-Going : goal.returns-in-Going
 returns-in-Going c =
     let J = job_by c.args.card.now c.args.h c.args.places.now c.args.c in
     c.close.ensures ∙ ap (λ (t : Status). finished J c.args.initial (state_by t (point_of (length c.args.places.now) c.args.r))) (sym c.in-Going.is)
-
-pub shape_of-model-in-Stopped : goal.shape_of-model-in-Stopped
-shape_of-model-in-Stopped c = c.stop_at.auto.model
-
-pub shape_of-columns-in-Stopped : goal.shape_of-columns-in-Stopped
-shape_of-columns-in-Stopped c = c.stop_at.auto.columns
 
 pub returns-in-Stopped : goal.returns-in-Stopped
 returns-in-Stopped c =

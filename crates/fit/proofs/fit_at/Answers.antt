@@ -13,29 +13,11 @@ fit_from-requires c =
     let m = c.load_model.ensures ∙ whole-over (numbers_of c.args.card.now c.args.h) c.args.model.now (length-model _ _ ∙ sym c.requires.1) in
     (c.requires.0, m, search rules, c.requires.3, c.requires.4, sym (ap J.likelihood m) ∙ sym c.fit_diagnostics-first.ensures.0 ∙ c.in-Fit.is)
 
-pub shape_of-model-in-Fit : goal.shape_of-model-in-Fit
-shape_of-model-in-Fit c = c.fit_from.auto.model ∙ c.load_model.auto.out
-
-pub shape_of-columns-in-Fit : goal.shape_of-columns-in-Fit
-shape_of-columns-in-Fit c = c.fit_from.auto.columns ∙ c.fit_diagnostics-first.auto.columns
-
-pub shape_of-model-in-Failed : goal.shape_of-model-in-Failed
-shape_of-model-in-Failed c = c.load_model.auto.out
-
-pub shape_of-columns-in-Failed : goal.shape_of-columns-in-Failed
-shape_of-columns-in-Failed c = c.fit_diagnostics-first.auto.columns
-
 pub returns-in-Failed : goal.returns-in-Failed
 returns-in-Failed c =
     let J = job_by c.args.card.now c.args.h c.args.places.now c.args.c in
     let m = c.load_model.ensures ∙ whole-over (numbers_of c.args.card.now c.args.h) c.args.model.now (length-model _ _ ∙ sym c.requires.1) in
     fit-by J _ (c.fit_diagnostics-first.ensures.0 ∙ ap J.likelihood m) _ c.in-Failed.is refl
-
-pub shape_of-model-in-Refused : goal.shape_of-model-in-Refused
-shape_of-model-in-Refused c = c.load_model.auto.out
-
-pub shape_of-columns-in-Refused : goal.shape_of-columns-in-Refused
-shape_of-columns-in-Refused c = c.fit_diagnostics-first.auto.columns
 
 pub returns-in-Refused : goal.returns-in-Refused
 returns-in-Refused c =

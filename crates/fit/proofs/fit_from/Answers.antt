@@ -83,12 +83,6 @@ finish-requires c =
     let J = job_by c.args.card.now c.args.h c.args.places.now c.args.c in
     (record { placed = c.requires.0; anchored = read-front J c.args.model.now read.new.out c.room-x.result read.ensures c.requires.1; model_room = run.auto.model ∙ ap length c.requires.1 ∙ length-model _ _; columns_room = omega (arith, run.auto.columns, c.requires.2) }, run.ensures.0.underway, run.ensures.0.normed)
 
-pub shape_of-model : goal.shape_of-model
-shape_of-model c = c.finish.auto.model ∙ c.run-r.auto.model
-
-pub shape_of-columns : goal.shape_of-columns
-shape_of-columns c = c.finish.auto.columns ∙ c.run-r.auto.columns
-
 pub returns : goal.returns
 returns c =
     let read = c.read in

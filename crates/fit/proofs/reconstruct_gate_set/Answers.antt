@@ -28,12 +28,6 @@ fit_at-requires c =
       subst (λ (c : GstOptimizerConfig). c.max_iterations ≤ 65535) (sym config-of) c.requires.6,
     )
 
-pub shape_of-model : goal.shape_of-model
-shape_of-model c = c.fit_at.auto.model
-
-pub shape_of-columns : goal.shape_of-columns
-shape_of-columns c = c.fit_at.auto.columns
-
 pub returns : goal.returns
 returns c =
     let ps = front-again (places_of c.args.card.now c.args.h) _ c.load_places.ensures (length-places _ _) in

@@ -15,12 +15,6 @@ pub fill-requires : goal.fill-requires
 fill-requires c =
     (c.requires.0, length-take-le _ _ (omega (arith, c.requires.0.few, c.requires.3.room)), c.requires.1)
 
-pub shape_of-model : goal.shape_of-model
-shape_of-model c = c.fill.auto.model
-
-pub shape_of-columns : goal.shape_of-columns
-shape_of-columns c = c.fit_diagnostics-l.auto.columns
-
 pub returns : goal.returns
 returns c =
     let fill = c.fill.ensures in

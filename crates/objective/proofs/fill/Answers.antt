@@ -51,9 +51,6 @@ loop-i-preserved c =
     let l = c.loop-i in
     (add-one-le c.loop-i-test.true, length-set l.model _ _ ∙ l.invariant.1, fold_more _ _ _ _ _ l.invariant.2 refl)
 
-pub shape_of-model : goal.shape_of-model
-shape_of-model c = c.loop-i.invariant.1 ∙ c.load_model.auto.out
-
 pub returns : goal.returns
 returns c =
     let a = c.args in

@@ -28,9 +28,5 @@ add_string-requires c =
 pub loop-code-preserved : goal.loop-code-preserved
 loop-code-preserved c = (search rules, strings-more _ _ _ _ _ _ _ c.requires.1 c.weight_of.ensures c.loop-code.invariant.1 c.add_string.ensures)
 
-pub shape_of-out : goal.shape_of-out
-shape_of-out c =
-    size_in _ _ c.loop-code.out c.requires.1 c.loop-code.invariant.1.size ∙ sym c.requires.3
-
 pub returns : goal.returns
 returns c = strings-all _ _ _ _ (omega arith) c.loop-code.invariant.1

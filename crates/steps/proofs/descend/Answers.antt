@@ -66,22 +66,10 @@ pub with_status-requires-in-Lost : goal.with_status-requires-in-Lost
 with_status-requires-in-Lost c =
     (c.requires.2.evaluations, omega arith)
 
-pub shape_of-model-in-Searching : goal.shape_of-model-in-Searching
-shape_of-model-in-Searching c = c.search-found.auto.model
-
-pub shape_of-columns-in-Searching : goal.shape_of-columns-in-Searching
-shape_of-columns-in-Searching c = c.search-found.auto.columns
-
 pub returns-in-Searching : goal.returns-in-Searching
 returns-in-Searching c =
     let J = job_by c.args.card.now c.args.h c.args.places.now c.args.c in
     stalled J c.args.r _ c.requires.2 _ _ c.requires.4 c.requires.0.placed.few c.requires.1 c.if-z-c.false _ c.search-found.ensures.0 c.in-Searching.is c.with_status-in-Searching.ensures
-
-pub shape_of-model-in-Found : goal.shape_of-model-in-Found
-shape_of-model-in-Found c = c.search-found.auto.model
-
-pub shape_of-columns-in-Found : goal.shape_of-columns-in-Found
-shape_of-columns-in-Found c = c.search-found.auto.columns
 
 pub returns-in-Found : goal.returns-in-Found
 returns-in-Found c =
@@ -89,12 +77,6 @@ returns-in-Found c =
     let search = c.search-found.ensures in
     let J = job_by c.args.card.now c.args.h c.args.places.now c.args.c in
     accepted J c.args.r _ c.requires.2 _ _ c.requires.4 c.requires.0.placed.few c.requires.1 c.if-z-c.false _ search.0 _ room.result (sym room.ensures) search.1 c.in-Found.is c.moved.ensures
-
-pub shape_of-model-in-Lost : goal.shape_of-model-in-Lost
-shape_of-model-in-Lost c = c.search-found.auto.model
-
-pub shape_of-columns-in-Lost : goal.shape_of-columns-in-Lost
-shape_of-columns-in-Lost c = c.search-found.auto.columns
 
 pub returns-in-Lost : goal.returns-in-Lost
 returns-in-Lost c =

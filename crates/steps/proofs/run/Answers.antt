@@ -23,12 +23,6 @@ loop-i-init c =
       subst (Normed J (point_of (length c.args.places.now) r) r.norm) (sym c.requires.6) tt,
     )
 
-pub shape_of-model-then-not-is_going : goal.shape_of-model-then-not-is_going
-shape_of-model-then-not-is_going c = c.loop-i.invariant.1
-
-pub shape_of-columns-then-not-is_going : goal.shape_of-columns-then-not-is_going
-shape_of-columns-then-not-is_going c = c.loop-i.invariant.2
-
 pub returns-then-not-is_going : goal.returns-then-not-is_going
 returns-then-not-is_going c =
     let l = c.loop-i in
@@ -65,12 +59,6 @@ loop-i-preserved c =
       run_more J (length c.args.places.now) _ l.i l.r l.invariant.6 step.result (sym c.is_going.ensures ∙ c.if-not-is_going.false) q.state,
       q.normed,
     )
-
-pub shape_of-model : goal.shape_of-model
-shape_of-model c = c.loop-i.invariant.1
-
-pub shape_of-columns : goal.shape_of-columns
-shape_of-columns c = c.loop-i.invariant.2
 
 pub returns : goal.returns
 returns c =

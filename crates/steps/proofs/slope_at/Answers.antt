@@ -49,19 +49,6 @@ slice_bounds-norm-end-in-Good c =
     let y = gradient.new.g in
     sym (length-take-le _ _ (front_long (length c.args.places.now) y c.args.g.now y refl (gradient.auto.g ∙ length-take-le _ _ (fits-room _ _ _ _ refl c.requires.0.placed.few (sym c.requires.2)))))
 
-pub shape_of-g-in-Good : goal.shape_of-g-in-Good
-shape_of-g-in-Good c =
-    let gradient = c.gradient-found in
-    let P = length c.args.places.now in
-    let y = gradient.new.g in
-    front-keeps P y c.args.g.now y refl (gradient.auto.g ∙ length-take-le _ _ (fits-room _ _ _ _ refl c.requires.0.placed.few (sym c.requires.2))) (fits-room _ _ _ _ refl c.requires.0.placed.few (sym c.requires.2))
-
-pub shape_of-model-in-Good : goal.shape_of-model-in-Good
-shape_of-model-in-Good c = c.gradient-found.auto.model
-
-pub shape_of-columns-in-Good : goal.shape_of-columns-in-Good
-shape_of-columns-in-Good c = c.gradient-found.auto.columns
-
 pub returns-in-Good : goal.returns-in-Good
 returns-in-Good c =
     let gradient = c.gradient-found in
@@ -70,19 +57,6 @@ returns-in-Good c =
     let n : length y ≡ P = gradient.auto.g ∙ length-take-le _ _ (fits-room _ _ _ _ refl c.requires.0.placed.few (sym c.requires.2)) in
     let J = job_by c.args.card.now c.args.h c.args.places.now c.args.c in
     (sloped J (point_of P c.args.r) y c.args.g.now _ gradient.ensures.0 _ c.in-Good.is n c.norm.ensures, front-keeps P y c.args.g.now y refl n (fits-room _ _ _ _ refl c.requires.0.placed.few (sym c.requires.2)), gradient.auto.model, gradient.auto.columns)
-
-pub shape_of-g-in-Refused : goal.shape_of-g-in-Refused
-shape_of-g-in-Refused c =
-    let gradient = c.gradient-found in
-    let P = length c.args.places.now in
-    let y = gradient.new.g in
-    front-keeps P y c.args.g.now y refl (gradient.auto.g ∙ length-take-le _ _ (fits-room _ _ _ _ refl c.requires.0.placed.few (sym c.requires.2))) (fits-room _ _ _ _ refl c.requires.0.placed.few (sym c.requires.2))
-
-pub shape_of-model-in-Refused : goal.shape_of-model-in-Refused
-shape_of-model-in-Refused c = c.gradient-found.auto.model
-
-pub shape_of-columns-in-Refused : goal.shape_of-columns-in-Refused
-shape_of-columns-in-Refused c = c.gradient-found.auto.columns
 
 pub returns-in-Refused : goal.returns-in-Refused
 returns-in-Refused c =

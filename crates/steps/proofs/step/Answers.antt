@@ -11,18 +11,6 @@ pub descend-requires : goal.descend-requires
 descend-requires c =
     (lent-on _ _ c.requires.0 c.slope_at-found.auto.model c.slope_at-found.auto.columns, c.requires.1, c.requires.2, search rules, subst (Sloped _ (point_of (length c.args.places.now) c.args.r) _) c.in-Norm.is c.slope_at-found.ensures.0)
 
-pub shape_of-model-in-Norm : goal.shape_of-model-in-Norm
-shape_of-model-in-Norm c = c.descend.auto.model ∙ c.slope_at-found.auto.model
-
-pub shape_of-columns-in-Norm : goal.shape_of-columns-in-Norm
-shape_of-columns-in-Norm c = c.descend.auto.columns ∙ c.slope_at-found.auto.columns
-
-pub shape_of-model-in-Unusable : goal.shape_of-model-in-Unusable
-shape_of-model-in-Unusable c = c.slope_at-found.auto.model
-
-pub shape_of-columns-in-Unusable : goal.shape_of-columns-in-Unusable
-shape_of-columns-in-Unusable c = c.slope_at-found.auto.columns
-
 pub returns-in-Unusable : goal.returns-in-Unusable
 returns-in-Unusable c =
     let J = job_by c.args.card.now c.args.h c.args.places.now c.args.c in

@@ -1,0 +1,12 @@
+use Rattle.outcome.proofs.Outcomes.{blank-same}
+use Rattle.tomography.proofs.Fits.{promised}
+use native.Mathlib.Omega.{arith}
+use mathlib.Core.Path.{◌∙◌}
+use Rattle.tomography.proofs.sheet.Goals as goal
+
+pub returns : goal.returns
+returns c =
+    let ran = c.run_in_room-answer in
+    let known = c.shared_slice_known-1 in
+    promised {card = c.args.card.now} (λ i. omega (arith, known.given i))
+    (record { gives = ran.ensures; blanked = c.clear.ensures ∙ blank-same ran.new.work c.args.work.now ran.auto.work })
