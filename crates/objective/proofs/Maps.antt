@@ -14,10 +14,10 @@ module _ {A B : Type 0} (f : A → B) where
   length-map [] = refl
   length-map (x ∷ l) = ap suc (length-map l)
 
-  get_d_map : (a : A) (b : B) (l : List A) (i : ℕ) → i < length l → get_or (map f l) i b ≡ f (get_or l i a)
-  get_d_map a b [] i h = absurd (not-suc-le-zero h)
-  get_d_map a b (x ∷ l) zero h = refl
-  get_d_map a b (x ∷ l) (suc i) h = get_d_map a b l i (omega arith)
+  get_or-map : (a : A) (b : B) (l : List A) (i : ℕ) → i < length l → get_or (map f l) i b ≡ f (get_or l i a)
+  get_or-map a b [] i h = absurd (not-suc-le-zero h)
+  get_or-map a b (x ∷ l) zero h = refl
+  get_or-map a b (x ∷ l) (suc i) h = get_or-map a b l i (omega arith)
 
   -- such a list, built entry by entry
   pub build-map : (a : A) (b : B) (l : List A) → build (length l) (λ i. f (get_or l i a)) ≡ map f l
@@ -26,4 +26,4 @@ module _ {A B : Type 0} (f : A → B) where
       ext_get_or b (build n (λ i. f (get_or l i a))) (map f l) (length-build n _ ∙ sym (length-map l))
       (λ i h.
       let k : i < n = omega (arith, length-build n (λ i. f (get_or l i a))) in
-      get_or-build b n i _ k ∙ sym (get_d_map a b l i k))
+      get_or-build b n i _ k ∙ sym (get_or-map a b l i k))

@@ -20,7 +20,7 @@ use Rattle.refusal.specs.declared.Verdict.TheVariants.{Good, Refused}
 use Rattle.descent.specs.declared.GstTermination.TheVariants.{GradientTolerance, ObjectiveTolerance, LineSearchStalled}
 use Rattle.descent.specs.declared.Search.{Search}
 use Rattle.descent.specs.declared.Search.TheVariants.{Searching, Found, Lost}
-use Rattle.descent.specs.Fit.{Job, Point, State, going, stopped, slopes, unusable, size, backtracks, gradient, norm, flat, trial, search_to, small, searched, step_by, step}
+use Rattle.descent.specs.Fit.{Job, Point, State, going, stopped, slopes, unusable, size, backtracks, gradient, flat, trial, search_to, small, searched, step_by, step}
 use Rattle.descent.proofs.Laws.{split}
 use Rattle.objective.specs.Job.{slopes_of}
 use Rattle.evaluation.proofs.Slopes.{norm-by}

@@ -1,6 +1,5 @@
 use Prim.Native.Nat.{zero-le}
 use mathlib.Core.Path.{refl, ◌∙◌}
-use mathlib.Core.Bool.{false}
 use Rattle.lists.proofs.Folding.{fold-none, fold_more, fold_end}
 use Rattle.diagnostics.specs.Diagnostics.{likelihood_by}
 use Rattle.diagnostics.proofs.Rooms.{room-on, record-fits}

@@ -1,6 +1,5 @@
 use native.Mathlib.Omega.{arith}
 use Rattle.lists.proofs.Filling.{fill_none, fill_more}
-use Rattle.card_parts.specs.Parts.{count_in}
 use Rattle.diagnostics.proofs.Loading.{counts_end}
 use borrow.Author.Rules.{rules}
 use Rattle.diagnostics.proofs.load_counts.Goals as goal

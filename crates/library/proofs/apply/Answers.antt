@@ -9,7 +9,7 @@ use Rattle.lists.specs.Build.{over}
 use native.Mathlib.Omega.{arith}
 use lib.Ieee.{Float}
 use mathlib.Core.List.{List}
-use mathlib.Core.Path.{sym, ap, ◌∙◌, refl}
+use mathlib.Core.Path.{sym, ap, ◌∙◌}
 use Rattle.library.proofs.apply.Goals as goal
 
 pub returns-then-not-has_room : goal.returns-then-not-has_room

@@ -10,7 +10,7 @@ use native.Mathlib.Omega.{arith}
 use lib.Ieee.{Float}
 use Prim.Native.Nat.{ℕ, ◌*◌}
 use mathlib.Core.List.{List}
-use mathlib.Core.Path.{sym, ap, ap₂, ◌∙◌, refl}
+use mathlib.Core.Path.{sym, ap, ap₂, ◌∙◌}
 use Rattle.library.proofs.choi_matrix.Goals as goal
 
 pub returns-then-not-has_room : goal.returns-then-not-has_room

@@ -5,7 +5,7 @@ use Rattle.outcome.specs.declared.Answer.TheVariants.{Probes}
 use Rattle.designs.proofs.Sizes.{square, length-probes}
 use Rattle.designs.specs.Probes.{probes_of}
 use native.Mathlib.Omega.{arith}
-use mathlib.Core.Path.{sym, ◌∙◌, refl}
+use mathlib.Core.Path.{sym, ◌∙◌}
 use Rattle.library.proofs.probes.Goals as goal
 
 pub returns-then-not-has_room : goal.returns-then-not-has_room

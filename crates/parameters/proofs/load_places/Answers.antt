@@ -1,7 +1,6 @@
 use mathlib.Core.Path.{sym, ap, ◌∙◌}
 use native.Mathlib.Omega.{arith}
 use Rattle.lists.proofs.Filling.{fill_none, fill_more, fill_end, over-build}
-use Rattle.card_parts.specs.Parts.{coordinate_in}
 use Rattle.parameters.specs.Parameters.{place_of, places_of}
 use Rattle.parameters.proofs.Fields.{fields}
 use borrow.Author.Rules.{rules}

@@ -1,4 +1,4 @@
-use mathlib.Core.Path.{subst, ◌∙◌}
+use mathlib.Core.Path.{subst}
 use Rattle.objective.specs.Job.{job_by}
 use Rattle.objective.proofs.Lending.{lent-on}
 use lib.ListN.{length}

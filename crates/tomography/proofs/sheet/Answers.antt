@@ -7,6 +7,5 @@ use Rattle.tomography.proofs.sheet.Goals as goal
 pub returns : goal.returns
 returns c =
     let ran = c.run_in_room-answer in
-    let known = c.shared_slice_known-1 in
-    promised {card = c.args.card.now} (λ i. omega (arith, known.given i))
+    promised {card = c.args.card.now} (λ i. omega (arith, c.type_inv.card i))
     (record { gives = ran.ensures; blanked = c.clear.ensures ∙ blank-same ran.new.work c.args.work.now ran.auto.work })
