@@ -105,7 +105,7 @@ module _ (J : Job) where
   by-fit likelihood.Failed = tt
   by-fit (likelihood.Refused r) = tt
 
--- a sheet's evaluations are at most 1 + 2P(I + 1) + I-as-B
+-- a sheet's evaluations are at most 1 + 2P(I + 1) + I·B
 pub evaluations-bound : (J : Job) → Counted J (fit_of J)
 unfolding fit_of
 evaluations-bound J = by-fit J (J.likelihood J.model)

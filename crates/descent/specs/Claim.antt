@@ -124,7 +124,7 @@ abbrev pub Claimed : Job → Outcome → Type 0
 Claimed J (fitted s) = (points : List (List Float)) × Claim J s points
 Claimed J (unfitted r) = Unit {0}
 
--- and its evaluations are at most 1 + 2P(I + 1) + I-as-B
+-- and its evaluations are at most 1 + 2P(I + 1) + I·B
 abbrev pub Counted : Job → Outcome → Type 0
 Counted J (fitted s) = s.evaluations ≤ 1 + 2 * size J * (iterations J + 1) + iterations J * backtracks J
 Counted J (unfitted r) = Unit {0}

@@ -127,7 +127,7 @@ pub extern "C" fn mintshuttle_probabilities<'a>(
     put_answer(a, answer)
 }
 
-// What the reader says of a card, of any kind: whether it would be refused by its layout alone.
+// What the reader says of a card, of any kind of document 01: whether it would be refused by its layout alone.
 #[unsafe(no_mangle)]
 pub extern "C" fn mintshuttle_read(card: &[u8], answer: &mut [u64]) -> u64
     ensures { ReadExported card.now answer.old answer.new result }

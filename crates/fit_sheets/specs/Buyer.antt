@@ -37,5 +37,5 @@ pub record Buyer (s : List ℕ) (h : Header) (R S E : ℕ) (v : Bool) (m : List 
   -- every model word that no coordinate names has the card's bits: entries, and names
   pub entries : (c : Coordinate) → has_entry h c ≡ true → listed (place_of h c) (places_of s h) ≡ false → get_or m (6 + word_place h c) 0 ≡ word_at s (model_at h + word_place h c)
   pub names : (g : ℕ) → g < h.gates → get_or m (6 + name_place h g) 0 ≡ word_at s (model_at h + name_place h g)
-  -- E is at most 1 + 2P(I + 1) + I-as-B
+  -- E is at most 1 + 2P(I + 1) + I·B
   pub counted : E ≤ 1 + 2 * h.coordinates * (word_at s 1 + 1) + word_at s 1 * word_at s 7

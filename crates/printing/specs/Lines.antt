@@ -1,4 +1,4 @@
--- How many lines a sheet has: its header, and one for each number or matrix entry.
+-- How many lines a sheet has (document 01): its header, and one for each number or matrix entry.
 use Rattle.std.specs.Prelude.{ℕ, ◌+◌, ◌*◌, cond, ◌&&◌, leb}
 use Rattle.outcome.specs.declared.Answer.{Answer}
 use Rattle.outcome.specs.declared.Answer.TheVariants.{Density, Projected, Process, Physical, Fit, Model, Diagnostics, Probes, Setting, Applied, Choi, Probabilities, Refused}
