@@ -1,5 +1,5 @@
 -- Writes one after the other, lines one after the other, and a word's digits. Assumes nothing.
-use Rattle.std.proofs.Common.{ℕ, ◌+◌, ◌-◌, ◌^◌, List, [], ◌∷◌, ◌++◌, ◌≡◌, ap, subst, ◌∙◌, sym, false, length, replicate, arith, append-nil}
+use Rattle.std.proofs.Common.{ℕ, ◌+◌, ◌-◌, ◌^◌, List, [], ◌∷◌, ◌++◌, ◌≡◌, ap, refl, subst, ◌∙◌, sym, false, length, replicate, arith, append-nil}
 use Rattle.std.specs.declared.option.Option.{Option}
 use Rattle.std.specs.Fmt.{padded_integral, format_spec, char_count}
 use Rattle.std.proofs.KnownBytes.{Appends-nil, Appends-trans}
@@ -7,17 +7,18 @@ use Rattle.std.proofs.lemmas.Grind.{flat_map-append}
 use Rattle.lists.specs.Build.{build}
 use Rattle.lists.proofs.Filling.{build-none, build-suc}
 use Rattle.printing.specs.declared.output.Output.{Output}
-use Rattle.printing.specs.Outputs.{Writes}
+use Rattle.printing.specs.Outputs.{error_of, Writes}
 use Rattle.printing.specs.Text.{lines_text}
 
 module _ {W : Type 0} {contents : W → Option (List ℕ)} where
   pub writes_nothing : (o : Output W) → Writes contents o o []
-  writes_nothing o = record { whole = λ h. h; text = λ _. Appends-nil _ }
+  writes_nothing o = record { whole = λ h. h; text = λ _. Appends-nil _; kept = λ _ _. refl }
 
   pub writes_both : {o p q : Output W} {bs cs : List ℕ} → Writes contents o p bs → Writes contents p q cs → Writes contents o q (bs ++ cs)
   writes_both a b = record {
     whole = λ h. a.whole (b.whole h);
     text = λ h. Appends-trans _ _ _ _ _ (a.text (b.whole h)) (b.text h);
+    kept = λ e h. b.kept e (ap error_of (a.kept e h) ∙ h) ∙ a.kept e h;
   }
 
 -- what `{:016x}` writes
