@@ -1,4 +1,5 @@
 -- What an accepted card has. Assumes nothing.
+use Rattle.std.proofs.Common.{Err, None, Ok, Some}
 use Prim.Native.Nat.{ℕ, zero, suc, ◌*◌, ◌%◌, ◌^◌, ◌≤◌, ◌<◌}
 use mathlib.Core.Bool.{Bool, true, false, cond, not, ◌&&◌, ◌||◌}
 use mathlib.Core.Path.{◌≡◌, refl, sym, ap, subst, ◌∙◌}
@@ -28,28 +29,25 @@ use Rattle.card_places.proofs.Sizes.{wanted-most}
 use Rattle.card_places.proofs.Within.{shaped}
 use Rattle.card_parts.specs.Parts.{Sequence, coordinate_in}
 use Rattle.card_parts.proofs.Sequences.{length-sequence}
-use Rattle.card_faults.specs.declared.Fault.{Fault}
-use Rattle.card_faults.specs.declared.Fault.TheVariants.{At, Nothing}
-use Rattle.card_faults.specs.Walk.{first_of}
-use Rattle.card.specs.declared.Reading.TheVariants.{Refused, Accepted}
+use Rattle.card_faults.specs.Walk.{Fault, first_of}
 use Rattle.card.specs.Reading.{header, examined, word_at_fault, size_at_fault, at_fault, lowest, fault_of, length_read, after_fault, read_of}
 use Rattle.card.proofs.Lowest.{lowest-none}
 use Rattle.card.specs.Accepts.{InversionCard, ProjectionCard, ProcessCard, TransferCard, FitCard, Names, Accepts}
 
 -- ---- The tests that acceptance passed
-split : (f : Fault) (b t : Bool) (w n : ℕ) (g h : Header) → after_fault f (cond b (Refused InvalidQubits) (cond t (Accepted g) (Refused (Shape w n)))) ≡ Accepted h → (f ≡ Nothing) × (b ≡ false) × (t ≡ true) × (g ≡ h)
-split (At p) b t w n g h e = let z : ◌≡◌ {A = ℕ} 0 1 = cc in absurd (omega arith)
-split Nothing true t w n g h e = let z : ◌≡◌ {A = ℕ} 0 1 = cc in absurd (omega arith)
-split Nothing false true w n g h e = (refl, refl, refl, cc)
-split Nothing false false w n g h e = let z : ◌≡◌ {A = ℕ} 0 1 = cc in absurd (omega arith)
+split : (f : Fault) (b t : Bool) (w n : ℕ) (g h : Header) → after_fault f (cond b (Err InvalidQubits) (cond t (Ok g) (Err (Shape w n)))) ≡ Ok h → (f ≡ None) × (b ≡ false) × (t ≡ true) × (g ≡ h)
+split (Some p) b t w n g h e = let z : ◌≡◌ {A = ℕ} 0 1 = cc in absurd (omega arith)
+split None true t w n g h e = let z : ◌≡◌ {A = ℕ} 0 1 = cc in absurd (omega arith)
+split None false true w n g h e = (refl, refl, refl, cc)
+split None false false w n g h e = let z : ◌≡◌ {A = ℕ} 0 1 = cc in absurd (omega arith)
 
 record Passed (s : List ℕ) (h : Header) : Type 0 where
   word0 : h ≡ header s
-  faultless : fault_of s ≡ Nothing
+  faultless : fault_of s ≡ None
   qubits : qubits_break h ≡ false
   whole : wanted_words h ≡ words_in s
 
-passed : (s : List ℕ) (h : Header) → read_of s ≡ Accepted h → Passed s h
+passed : (s : List ℕ) (h : Header) → read_of s ≡ Ok h → Passed s h
 unfolding read_of length_read
 passed s h e =
     let p = split (fault_of s) (qubits_break (header s)) (eqb (wanted_words (header s)) (words_in s)) (wanted_words (header s)) (words_in s) (header s) h e in
@@ -61,19 +59,19 @@ passed s h e =
     }
 
 -- ---- No place is at fault
-first-no : (a b : Fault) → first_of a b ≡ Nothing → (a ≡ Nothing) × (b ≡ Nothing)
-first-no (At p) b e = let z : ◌≡◌ {A = ℕ} 0 1 = cc in absurd (omega arith)
-first-no Nothing b e = (refl, e)
+first-no : (a b : Fault) → first_of a b ≡ None → (a ≡ None) × (b ≡ None)
+first-no (Some p) b e = let z : ◌≡◌ {A = ℕ} 0 1 = cc in absurd (omega arith)
+first-no None b e = (refl, e)
 
-cond_no : (t : Bool) (n : ℕ) → cond t (At n) Nothing ≡ Nothing → t ≡ false
+cond_no : (t : Bool) (n : ℕ) → cond t (Some n) None ≡ None → t ≡ false
 cond_no true n e = let z : ◌≡◌ {A = ℕ} 0 1 = cc in absurd (omega arith)
 cond_no false n e = refl
 
-lowest-no : (n : ℕ) (f : ℕ → Bool) → lowest n f ≡ Nothing → (k : ℕ) → k < n → f k ≡ false
+lowest-no : (n : ℕ) (f : ℕ → Bool) → lowest n f ≡ None → (k : ℕ) → k < n → f k ≡ false
 unfolding lowest
 lowest-no zero f e k l = absurd (not-suc-le-zero l)
 lowest-no (suc n) f e k l =
-    let p = first-no (lowest n f) (cond (f n) (At n) Nothing) e in
+    let p = first-no (lowest n f) (cond (f n) (Some n) None) e in
     ⊎_elim (λ (q : k ≡ n). ap f q ∙ cond_no (f n) n p.1) (λ (m : k < n). lowest-no n f p.0 k m) (eq-or-lt_of_le (omega arith))
 
 -- a coordinate that keeps its rule
@@ -209,7 +207,7 @@ module _ (s : List ℕ) (h : Header) (a : Passed s h) where
         words = words _ (words5 h e);
       }
 
-pub accepted : (s : List ℕ) (h : Header) → read_of s ≡ Accepted h → Accepts s h
+pub accepted : (s : List ℕ) (h : Header) → read_of s ≡ Ok h → Accepts s h
 accepted s h e =
     let a = passed s h e in
     record {
@@ -253,9 +251,9 @@ module _ (s : List ℕ) (h : Header) (e : h ≡ header s) (a : Shaped s h) (keep
       ap (λ (k : Header). breaks s p (get_or (layout k) p number)) (sym e) ∙ right-word p (ltb p (wanted_words h)) refl in
       or_no (size_at_fault s p) (word_at_fault s p) (right-size p) (rw (q, w))
 
-  pub reads : read_of s ≡ Accepted h
+  pub reads : read_of s ≡ Ok h
   unfolding read_of length_read fault_of
   reads =
       let q : qubits_break (header s) ≡ false = ap qubits_break (sym e) ∙ a.qubits in
       let n : eqb (wanted_words (header s)) (words_in s) ≡ true = eq-eqb _ _ (ap wanted_words (sym e) ∙ omega (arith, a.length)) in
-      rw (lowest-none (at_fault s) (suc (words_in s)) (λ k l. right k), q, n) (ap Accepted (sym e))
+      rw (lowest-none (at_fault s) (suc (words_in s)) (λ k l. right k), q, n) (ap Ok (sym e))

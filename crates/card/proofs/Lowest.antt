@@ -1,4 +1,5 @@
 -- The lowest place at fault is the earlier of the size's and the first word at fault along the layout. Assumes nothing.
+use Rattle.std.proofs.Common.{None, Some}
 use Prim.Native.Nat.{ℕ, zero, suc, ◌+◌, ◌-◌, ◌%◌, ◌*◌, ◌≤◌, ◌<◌, zero-le}
 use mathlib.Core.Bool.{Bool, true, false, cond, ◌&&◌, ◌||◌}
 use mathlib.Core.Path.{◌≡◌, refl, sym, ap, subst, ◌∙◌}
@@ -13,9 +14,7 @@ use Rattle.booleans.proofs.Joined.{or_no, or_left, or_right, or_cases, and_both,
 use Rattle.numbers.specs.Word.{words_in}
 use Rattle.card_layout.specs.Limits.{most_words}
 use Rattle.card_layout.specs.Layout.{Role, number, faulty, breaks}
-use Rattle.card_faults.specs.declared.Fault.{Fault}
-use Rattle.card_faults.specs.declared.Fault.TheVariants.{At, Nothing}
-use Rattle.card_faults.specs.Walk.{earlier, walk}
+use Rattle.card_faults.specs.Walk.{Fault, earlier, walk}
 use Rattle.card.specs.Reading.{lowest, at_fault, size_at_fault, word_at_fault, fault_of, examined}
 use Rattle.card.specs.Scan.{size_fault}
 
@@ -30,15 +29,15 @@ pub record Lowest (f : ℕ → Bool) (n : ℕ) : Type 0 where
 
 -- what an answer says of f: the lowest place of all, or that there is none
 unfoldable pub Says : (ℕ → Bool) → Fault → Type 0
-Says f (At p) = Lowest f p
-Says f Nothing = (k : ℕ) → f k ≡ false
+Says f (Some p) = Lowest f p
+Says f None = (k : ℕ) → f k ≡ false
 
-pub lowest-none : (f : ℕ → Bool) (n : ℕ) → ((k : ℕ) → k < n → f k ≡ false) → lowest n f ≡ Nothing
+pub lowest-none : (f : ℕ → Bool) (n : ℕ) → ((k : ℕ) → k < n → f k ≡ false) → lowest n f ≡ None
 unfolding lowest
 lowest-none f zero h = refl
 lowest-none f (suc n) h = rw (lowest-none f n (λ k l. h k (omega arith)), h n (omega arith))
 
-pub lowest-at : (f : ℕ → Bool) (n p : ℕ) → p < n → Lowest f p → lowest n f ≡ At p
+pub lowest-at : (f : ℕ → Bool) (n p : ℕ) → p < n → Lowest f p → lowest n f ≡ Some p
 unfolding lowest
 lowest-at f zero p l h = absurd (not-suc-le-zero l)
 lowest-at f (suc n) p l h =
@@ -50,8 +49,8 @@ lowest-at f (suc n) p l h =
 
 -- the walk says where the first word at fault is, if R gives each place its role
 unfoldable Found : (ℕ → Bool) → ℕ → Fault → Type 0
-Found f p (At q) = (p ≤ q) × (f q ≡ true) × ((k : ℕ) → p ≤ k → k < q → f k ≡ false)
-Found f p Nothing = (k : ℕ) → p ≤ k → f k ≡ false
+Found f p (Some q) = (p ≤ q) × (f q ≡ true) × ((k : ℕ) → p ≤ k → k < q → f k ≡ false)
+Found f p None = (k : ℕ) → p ≤ k → f k ≡ false
 
 faults : List ℕ → (ℕ → Role) → ℕ → Bool
 faults s R k = faulty s k (R k)
@@ -60,15 +59,15 @@ no-rule : (s : List ℕ) (p : ℕ) → faulty s p number ≡ false
 unfolding faulty breaks
 no-rule s p = refl
 
-step : (f : ℕ → Bool) (p : ℕ) (t : Bool) (w : Fault) → f p ≡ t → Found f (p + 1) w → Found f p (cond t (At p) w)
+step : (f : ℕ → Bool) (p : ℕ) (t : Bool) (w : Fault) → f p ≡ t → Found f (p + 1) w → Found f p (cond t (Some p) w)
 unfolding Found
 step f p true w e h = (omega arith, e, λ k a b. absurd (omega arith))
-step f p false (At q) e (a, b, g) = (
+step f p false (Some q) e (a, b, g) = (
   omega arith,
   b,
   λ k l m. ⊎_elim (λ (i : p ≡ k). subst (λ (j : ℕ). f j ≡ false) i e) (λ (i : p < k). g k (omega arith) m) (eq-or-lt_of_le l),
 )
-step f p false Nothing e g =
+step f p false None e g =
     λ k l. ⊎_elim (λ (i : p ≡ k). subst (λ (j : ℕ). f j ≡ false) i e) (λ (i : p < k). g k (omega arith)) (eq-or-lt_of_le l)
 
 walked : (s : List ℕ) (R : ℕ → Role) (p : ℕ) (l : List Role) → ((k : ℕ) → get_or l k number ≡ R (p + k)) → Found (faults s R) p (walk s p l)
@@ -85,8 +84,8 @@ walked s R p (r ∷ l) h =
 -- the first place of the walk from 0 is the lowest of all
 said : (f : ℕ → Bool) (o : Fault) → Found f 0 o → Says f o
 unfolding Found Says
-said f (At q) (a, b, g) = record { here = b; below = record { none = λ k l. g k zero-le l } }
-said f Nothing g = λ k. g k zero-le
+said f (Some q) (a, b, g) = record { here = b; below = record { none = λ k l. g k zero-le l } }
+said f None g = λ k. g k zero-le
 
 pub words-say : (s : List ℕ) → Says (word_at_fault s) (walk s 0 (examined s))
 unfolding word_at_fault faults
@@ -99,7 +98,7 @@ three : Bool → Bool → Bool → ℕ → ℕ → Bool
 three a b c q p = (a && eqb p 0) || ((b && eqb p most_words) || (c && eqb p q))
 
 three-fault : Bool → Bool → Bool → ℕ → Fault
-three-fault a b c q = cond a (At 0) (cond b (At most_words) (cond c (At q) Nothing))
+three-fault a b c q = cond a (Some 0) (cond b (Some most_words) (cond c (Some q) None))
 
 three-say : (a b c : Bool) (q : ℕ) → (b ≡ true → most_words ≤ q) → Says (three a b c q) (three-fault a b c q)
 unfolding three three-fault Says
@@ -141,23 +140,23 @@ unfolding either
 right-low f g p h n =
     record { here = or_right (f p) (g p) h.here; below = record { none = λ k l. or_no (f k) (g k) (n k l) (h.below.none k l) } }
 
-by_order : (f g : ℕ → Bool) (p q : ℕ) (t : Bool) → leb p q ≡ t → Lowest f p → Lowest g q → Says (either f g) (cond t (At p) (At q))
+by_order : (f g : ℕ → Bool) (p q : ℕ) (t : Bool) → leb p q ≡ t → Lowest f p → Lowest g q → Says (either f g) (cond t (Some p) (Some q))
 unfolding Says
 by_order f g p q true e h m = let l : p ≤ q = leb-true p q e in left-low f g p h (λ k i. m.below.none k (omega arith))
 by_order f g p q false e h m = let l : q < p = leb-false p q e in right-low f g q m (λ k i. h.below.none k (omega arith))
 
 both_say : (f g : ℕ → Bool) (a b : Fault) → Says f a → Says g b → Says (either f g) (earlier a b)
 unfolding Says earlier either
-both_say f g (At p) (At q) h m = by_order f g p q (leb p q) refl h m
-both_say f g (At p) Nothing h m = left-low f g p h (λ k i. m k)
-both_say f g Nothing (At q) h m = right-low f g q m (λ k i. h k)
-both_say f g Nothing Nothing h m = λ k. or_no (f k) (g k) (h k) (m k)
+both_say f g (Some p) (Some q) h m = by_order f g p q (leb p q) refl h m
+both_say f g (Some p) None h m = left-low f g p h (λ k i. m k)
+both_say f g None (Some q) h m = right-low f g q m (λ k i. h k)
+both_say f g None None h m = λ k. or_no (f k) (g k) (h k) (m k)
 
 -- whatever says where the lowest place is, says what `lowest` finds
 says-lowest : (f : ℕ → Bool) (n : ℕ) (o : Fault) → Says f o → ((k : ℕ) → f k ≡ true → k < n) → lowest n f ≡ o
 unfolding Says
-says-lowest f n (At p) h b = lowest-at f n p (b p h.here) h
-says-lowest f n Nothing h b = lowest-none f n (λ k l. h k)
+says-lowest f n (Some p) h b = lowest-at f n p (b p h.here) h
+says-lowest f n None h b = lowest-none f n (λ k l. h k)
 
 -- no place above the number of whole words is at fault
 placed : (a : Bool) (k m : ℕ) → a && eqb k m ≡ true → (a ≡ true) × (k ≡ m)

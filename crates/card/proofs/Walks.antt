@@ -1,4 +1,5 @@
 -- The first word at fault, kind by kind, as the code looks for it. Assumes nothing.
+use Rattle.std.proofs.Common.{None, Some}
 use Prim.Native.Nat.{ℕ, zero, suc, ◌*◌, ◌%◌, ◌≤◌, ◌^◌, ◌<◌}
 use mathlib.Core.Bool.{Bool, true, false, cond}
 use mathlib.Core.Path.{◌≡◌, refl, sym, ap, ◌∙◌}
@@ -15,9 +16,7 @@ use Rattle.card_layout.specs.Layout.{Role, word0, number, at_most, control_roles
 use Rattle.card_layout.proofs.Lengths.{length-model, length-records}
 use Rattle.card_places.specs.Places.{after_model, coordinate_at, model_at}
 use Rattle.card_places.proofs.ByKind.{model, records, coordinates, after2, after4, after5, after7, at5, at7}
-use Rattle.card_faults.specs.declared.Fault.{Fault}
-use Rattle.card_faults.specs.declared.Fault.TheVariants.{At, Nothing}
-use Rattle.card_faults.specs.Walk.{first_of, earlier, walk}
+use Rattle.card_faults.specs.Walk.{Fault, first_of, earlier, walk}
 use Rattle.card_faults.proofs.Walking.{Clean, clean-append, clean-times, clean-number, clean-numbers, clean-model, clean-nil, walk-append, walk-front, walk-past, none-there}
 use Rattle.card.specs.Reading.{header, examined, fault_of}
 use Rattle.card.specs.Scan.{size_fault}
@@ -75,7 +74,7 @@ module _ (s : List ℕ) (h : Header) where
   clean-cond true f g = f
   clean-cond false f g = g
 
-  pub faultless : (h.kind ≡ 2 → ⊥) → (h.kind ≡ 4 → ⊥) → (h.kind ≡ 5 → ⊥) → (h.kind ≡ 7 → ⊥) → Nothing ≡ walk s 1 (after_word0 h)
+  pub faultless : (h.kind ≡ 2 → ⊥) → (h.kind ≡ 4 → ⊥) → (h.kind ≡ 5 → ⊥) → (h.kind ≡ 7 → ⊥) → None ≡ walk s 1 (after_word0 h)
   unfolding after_word0
   faultless a b c d =
       let v = clean-times (4 ^ h.qubits) (clean-numbers (4 ^ h.qubits)) in
@@ -94,7 +93,7 @@ module _ (s : List ℕ) where
   kept l e = rw e
 
   -- where n is at fault word 0 is all that is looked at, and otherwise the whole layout
-  pub short : word0_breaks (header s) ≡ false → qubits_break (header s) ≡ true → Nothing ≡ walk s 0 (examined s)
+  pub short : word0_breaks (header s) ≡ false → qubits_break (header s) ≡ true → None ≡ walk s 0 (examined s)
   unfolding examined walk
   short w e = rw e (sym (kept [] w))
 
@@ -103,32 +102,32 @@ module _ (s : List ℕ) where
   long w e = rw e (sym (kept (after_word0 (header s)) w))
 
   -- it breaks its rule: no place is lower
-  broken : (l : List Role) → 8 ≤ length s → word0_breaks (header s) ≡ true → walk s 0 (word0 ∷ l) ≡ At 0
+  broken : (l : List Role) → 8 ≤ length s → word0_breaks (header s) ≡ true → walk s 0 (word0 ∷ l) ≡ Some 0
   unfolding walk faulty breaks header
   broken l h e = let t : ltb 0 (words_in s) ≡ true = lt-ltb 0 (words_in s) (omega arith) in rw (e, t)
 
-  first-zero : (b : Bool) → 8 ≤ length s → word0_breaks (header s) ≡ true → walk s 0 (cond b (word0 ∷ []) (layout (header s))) ≡ At 0
+  first-zero : (b : Bool) → 8 ≤ length s → word0_breaks (header s) ≡ true → walk s 0 (cond b (word0 ∷ []) (layout (header s))) ≡ Some 0
   unfolding layout
   first-zero true h e = broken [] h e
   first-zero false h e = broken (after_word0 (header s)) h e
 
-  lower-zero : (f : Fault) → earlier f (At 0) ≡ At 0
+  lower-zero : (f : Fault) → earlier f (Some 0) ≡ Some 0
   unfolding earlier
-  lower-zero (At zero) = refl
-  lower-zero (At (suc p)) = rw (lt-leb (suc p) 0 (omega arith))
-  lower-zero Nothing = refl
+  lower-zero (Some zero) = refl
+  lower-zero (Some (suc p)) = rw (lt-leb (suc p) 0 (omega arith))
+  lower-zero None = refl
 
-  pub word0-fault : 8 ≤ length s → word0_breaks (header s) ≡ true → fault_of s ≡ At 0
+  pub word0-fault : 8 ≤ length s → word0_breaks (header s) ≡ true → fault_of s ≡ Some 0
   unfolding examined
   word0-fault h e = found s ∙ ap (earlier (size_fault s)) (first-zero (qubits_break (header s)) h e) ∙ lower-zero (size_fault s)
 
   -- with less than one word the card is refused at 0
-  few : (a b : Bool) → length s < 8 → eqb (length s) 0 ≡ a → ltb 0 (length s % 8) ≡ b → size_fault s ≡ At 0
+  few : (a b : Bool) → length s < 8 → eqb (length s) 0 ≡ a → ltb 0 (length s % 8) ≡ b → size_fault s ≡ Some 0
   unfolding size_fault
   few true b h e f = rw e
-  few false true h e f = rw (e, le-ltb (most_words * 8) (length s) (omega arith), f) (ap At (omega arith))
+  few false true h e f = rw (e, le-ltb (most_words * 8) (length s) (omega arith), f) (ap Some (omega arith))
   few false false h e f = let m : length s % 8 ≤ 0 = ltb-false 0 (length s % 8) f in absurd (eqb-false (length s) 0 e (omega arith))
 
-  pub no_word : length s < 8 → fault_of s ≡ At 0
+  pub no_word : length s < 8 → fault_of s ≡ Some 0
   unfolding earlier
   no_word h = found s ∙ rw (few _ _ h refl refl, none-there s 0 (examined s) (omega arith))

@@ -1,6 +1,7 @@
 -- What reading a card finds (document 01, "The card" and "Refused sheets"): refusal 15 at the lowest place at fault, then 1, then 2.
-use Rattle.std.specs.Prelude.{ℕ, zero, suc, ◌*◌, ◌%◌, List, [], ◌∷◌, Bool, cond, ◌&&◌, ◌||◌, length, get_or, ltb, eqb}
+use Rattle.std.specs.Prelude.{Result, Err, None, Ok, Some, ℕ, zero, suc, ◌*◌, ◌%◌, List, [], ◌∷◌, Bool, cond, ◌&&◌, ◌||◌, length, get_or, ltb, eqb}
 use Rattle.numbers.specs.Word.{word_at, words_in}
+use Rattle.refusal.specs.declared.Refusal.{Refusal}
 use Rattle.refusal.specs.declared.Refusal.TheVariants.{InvalidQubits, Shape, InvalidCard}
 use Rattle.card_layout.specs.declared.Header.{Header}
 use Rattle.card_layout.specs.Fields.{header_of}
@@ -8,11 +9,11 @@ use Rattle.card_layout.specs.Limits.{most_words}
 use Rattle.card_layout.specs.Rules.{qubits_break}
 use Rattle.card_layout.specs.Layout.{Role, word0, number, layout, faulty}
 use Rattle.card_places.specs.Places.{wanted_words}
-use Rattle.card_faults.specs.declared.Fault.{Fault}
-use Rattle.card_faults.specs.declared.Fault.TheVariants.{At, Nothing}
-use Rattle.card_faults.specs.Walk.{first_of}
-use Rattle.card.specs.declared.Reading.{Reading}
-use Rattle.card.specs.declared.Reading.TheVariants.{Refused, Accepted}
+use Rattle.card_faults.specs.Walk.{Fault, first_of}
+
+-- what a reader finds: the fields of word 0, or a refusal
+abbrev pub Reading : Type 0
+Reading = Result Header Refusal
 
 -- the card's word 0
 unfoldable pub header : List ℕ → Header
@@ -39,8 +40,8 @@ at_fault s p = size_at_fault s p || word_at_fault s p
 
 -- the lowest place below n that f holds of
 unfoldable pub lowest : ℕ → (ℕ → Bool) → Fault
-lowest zero f = Nothing
-lowest (suc n) f = first_of (lowest n f) (cond (f n) (At n) Nothing)
+lowest zero f = None
+lowest (suc n) f = first_of (lowest n f) (cond (f n) (Some n) None)
 
 -- the lowest place at fault: none lies above the number of whole words
 unfoldable pub fault_of : List ℕ → Fault
@@ -49,14 +50,14 @@ fault_of s = lowest (suc (words_in s)) (at_fault s)
 -- 1, then 2, then the card is accepted
 unfoldable pub length_read : Header → ℕ → Reading
 length_read h found =
-    cond (qubits_break h) (Refused InvalidQubits)
-    (cond (eqb (wanted_words h) found) (Accepted h)
-    (Refused (Shape (wanted_words h) found)))
+    cond (qubits_break h) (Err InvalidQubits)
+    (cond (eqb (wanted_words h) found) (Ok h)
+    (Err (Shape (wanted_words h) found)))
 
 -- 15 first
 abbrev pub after_fault : Fault → Reading → Reading
-after_fault (At p) r = Refused (InvalidCard p)
-after_fault Nothing r = r
+after_fault (Some p) r = Err (InvalidCard p)
+after_fault None r = r
 
 -- A refusal of document 02 that stands between 15 and 1 is one more step here
 unfoldable pub read_of : List ℕ → Reading

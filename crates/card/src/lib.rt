@@ -9,37 +9,31 @@ ghost use Rattle.card_faults.specs.Walk.{walk};
 ghost use Rattle.card.specs.Reading.{header, examined, length_read, after_fault, read_of};
 ghost use Rattle.card.specs.Scan.{size_fault};
 
-use card_faults::{Fault, coordinates_fault, earlier, first_of, limit_fault, records_fault};
-use card_layout::{Header, header_of, qubits_break, word0_breaks};
+use card_faults::{coordinates_fault, earlier, limit_fault, records_fault};
+use card_layout::{Header, Kind, header_of, qubits_break, word0_breaks};
 use card_places::{after_model, coordinate_at, wanted};
 use numbers::word_at;
 use refusal::Refusal;
 use sizes::{four_to, square};
 
-#[derive(Clone, Copy)]
-pub enum Reading {
-    Refused(Refusal),
-    Accepted(Header),
-}
-
-fn size_fault(card: &[u8]) -> Fault
+fn size_fault(card: &[u8]) -> Option<usize>
     ensures { result ≡ size_fault card.now }
 {
     let n = card.len();
     if n == 0 {
-        return Fault::At(0);
+        return Some(0);
     }
     if 65536 < n {
-        return Fault::At(8192);
+        return Some(8192);
     }
     if 0 < n % 8 {
-        return Fault::At(n / 8);
+        return Some(n / 8);
     }
-    Fault::Nothing
+    None
 }
 
 // Kind 5: two controls, the records, the coordinates.
-fn fit_fault(card: &[u8], h: Header) -> Fault
+fn fit_fault(card: &[u8], h: Header) -> Option<usize>
     requires { Limited h × (h.kind ≡ 5) }
     ensures { result ≡ walk card.now 1 (after_word0 h) }
 {
@@ -47,82 +41,79 @@ fn fit_fault(card: &[u8], h: Header) -> Fault
     let backtracks = limit_fault(card, 7, 255);
     let records = records_fault(card, after_model(h), h.effects, h.records);
     let coordinates = coordinates_fault(card, coordinate_at(h, 0), h.coordinates);
-    first_of(
-        iterations,
-        first_of(backtracks, first_of(records, coordinates)),
-    )
+    iterations.or(backtracks.or(records.or(coordinates)))
 }
 
 // The words after word 0.
-fn kind_fault(card: &[u8], h: Header) -> Fault
+fn kind_fault(card: &[u8], h: Header) -> Option<usize>
     requires { Limited h }
     ensures { result ≡ walk card.now 1 (after_word0 h) }
 {
-    let k = h.kind;
-    if k == 2 {
-        let m = square(h.dimension);
-        return limit_fault(card, 2, (64 * m) as u64);
+    match Kind::try_from(h.kind) {
+        Ok(Kind::Projected) => {
+            let m = square(h.dimension);
+            limit_fault(card, 2, (64 * m) as u64)
+        }
+        Ok(Kind::Physical) => {
+            let m = square(four_to(h.qubits));
+            limit_fault(card, 2, (64 * m) as u64)
+        }
+        Ok(Kind::Fit) => fit_fault(card, h),
+        Ok(Kind::Diagnostics) => records_fault(card, after_model(h), h.effects, h.records),
+        Ok(Kind::Density) => None,
+        Ok(Kind::Process) => None,
+        Ok(Kind::Model) => None,
+        Err(_) => None,
     }
-    if k == 4 {
-        let m = square(four_to(h.qubits));
-        return limit_fault(card, 2, (64 * m) as u64);
-    }
-    if k == 5 {
-        return fit_fault(card, h);
-    }
-    if k == 7 {
-        return records_fault(card, after_model(h), h.effects, h.records);
-    }
-    Fault::Nothing
 }
 
 // The words that are looked at, where word 0 keeps its rule.
-fn words_fault(card: &[u8], h: Header) -> Fault
+fn words_fault(card: &[u8], h: Header) -> Option<usize>
     requires { (h ≡ header card.now) × (word0_breaks h ≡ false) }
     ensures { result ≡ walk card.now 0 (examined card.now) }
 {
     if qubits_break(h) {
-        return Fault::Nothing;
+        return None;
     }
     kind_fault(card, h)
 }
 
-fn length_read(h: Header, found: usize) -> Reading
+fn length_read(h: Header, found: usize) -> Result<Header, Refusal>
     requires { word0_breaks h ≡ false }
     ensures { result ≡ length_read h found }
 {
     if qubits_break(h) {
-        return Reading::Refused(Refusal::InvalidQubits);
+        return Err(Refusal::InvalidQubits);
     }
     let w = wanted(h);
     if w == found {
-        return Reading::Accepted(h);
+        return Ok(h);
     }
-    Reading::Refused(Refusal::Shape {
+    Err(Refusal::Shape {
         expected: w as u64,
         actual: found as u64,
     })
 }
 
-fn after_fault(f: Fault, r: Reading) -> Reading
+fn after_fault(f: Option<usize>, r: Result<Header, Refusal>) -> Result<Header, Refusal>
     ensures { result ≡ after_fault f r }
 {
     match f {
-        Fault::At(p) => Reading::Refused(Refusal::InvalidCard(p as u64)),
-        Fault::Nothing => r,
+        Some(p) => Err(Refusal::InvalidCard(p as u64)),
+        None => r,
     }
 }
 
 // What the card is refused for, or its word 0.
-pub fn read(card: &[u8]) -> Reading
+pub fn read(card: &[u8]) -> Result<Header, Refusal>
     ensures { result ≡ read_of card.now }
 {
     if card.len() < 8 {
-        return Reading::Refused(Refusal::InvalidCard(0));
+        return Err(Refusal::InvalidCard(0));
     }
     let h = header_of(word_at(card, 0));
     if word0_breaks(h) {
-        return Reading::Refused(Refusal::InvalidCard(0));
+        return Err(Refusal::InvalidCard(0));
     }
     let f = earlier(size_fault(card), words_fault(card, h));
     after_fault(f, length_read(h, card.len() / 8))

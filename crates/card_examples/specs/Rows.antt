@@ -1,9 +1,8 @@
 -- Worked readings of document 01's card: a card's words, the bytes of a word cut short after them, and what reading it finds.
-use Rattle.std.specs.Prelude.{ℕ, List, [], ◌∷◌, ◌++◌, replicate}
+use Rattle.std.specs.Prelude.{Err, Ok, ℕ, List, [], ◌∷◌, ◌++◌, replicate}
 use Rattle.refusal.specs.declared.Refusal.TheVariants.{InvalidQubits, Shape, InvalidCard}
 use Rattle.card_layout.specs.Fields.{header_of, bits}
-use Rattle.card.specs.declared.Reading.{Reading}
-use Rattle.card.specs.declared.Reading.TheVariants.{Refused, Accepted}
+use Rattle.card.specs.Reading.{Reading}
 
 -- a word's bytes, the highest first
 abbrev pub bytes : ℕ → List ℕ
@@ -21,17 +20,17 @@ pub record Row : Type 0 where
 
 -- 15 at a place, and the card with this word 0
 abbrev pub at : List ℕ → ℕ → ℕ → Row
-at ws cut p = record { words = ws; cut = cut; reading = Refused (InvalidCard p) }
+at ws cut p = record { words = ws; cut = cut; reading = Err (InvalidCard p) }
 
 abbrev pub reads : List ℕ → ℕ → Row
-reads ws w = record { words = ws; cut = 0; reading = Accepted (header_of w) }
+reads ws w = record { words = ws; cut = 0; reading = Ok (header_of w) }
 
 -- 1, and 2 with the words wanted and found
 abbrev pub qubits : List ℕ → Row
-qubits ws = record { words = ws; cut = 0; reading = Refused InvalidQubits }
+qubits ws = record { words = ws; cut = 0; reading = Err InvalidQubits }
 
 abbrev pub length : List ℕ → ℕ → ℕ → Row
-length ws a b = record { words = ws; cut = 0; reading = Refused (Shape a b) }
+length ws a b = record { words = ws; cut = 0; reading = Err (Shape a b) }
 
 abbrev pub rows : List Row
 rows =

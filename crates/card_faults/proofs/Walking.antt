@@ -1,4 +1,5 @@
 -- Laws of the walk along the layout. Assumes nothing.
+use Rattle.std.proofs.Common.{None, Some}
 use Prim.Native.Nat.{ℕ, zero, suc, ◌+◌, ◌*◌, ◌^◌, ◌≤◌, ◌<◌}
 use mathlib.Core.Bool.{Bool, true, false, cond, ◌&&◌, and-true, and-false}
 use mathlib.Core.Path.{◌≡◌, refl, sym, ap, ◌∙◌}
@@ -11,9 +12,7 @@ use lib.ListN.{length}
 use Rattle.numbers.specs.Word.{words_in}
 use Rattle.card_layout.specs.Layout.{Role, number, name, count, faulty, breaks, times, numbers, record_roles, sequence_roles, model_roles}
 use Rattle.card_layout.proofs.Lengths.{length-times}
-use Rattle.card_faults.specs.declared.Fault.{Fault}
-use Rattle.card_faults.specs.declared.Fault.TheVariants.{At, Nothing}
-use Rattle.card_faults.specs.Walk.{first_of, walk}
+use Rattle.card_faults.specs.Walk.{Fault, first_of, walk}
 
 -- a word that is there is at fault if it breaks its rule
 pub there : (s : List ℕ) (p : ℕ) (r : Role) {b : Bool} → p < words_in s → b ≡ breaks s p r → b ≡ faulty s p r
@@ -25,7 +24,7 @@ pub absent : (s : List ℕ) (p : ℕ) (r : Role) → words_in s ≤ p → false 
 unfolding faulty
 absent s p r h = sym (and-false (breaks s p r)) ∙ ap (λ (t : Bool). breaks s p r && t) (sym (le-ltb p (words_in s) h))
 
-cond-first : (t : Bool) (p : ℕ) (y z : Fault) → cond t (At p) (first_of y z) ≡ first_of (cond t (At p) y) z
+cond-first : (t : Bool) (p : ℕ) (y z : Fault) → cond t (Some p) (first_of y z) ≡ first_of (cond t (Some p) y) z
 cond-first true p y z = refl
 cond-first false p y z = refl
 
@@ -33,13 +32,13 @@ pub walk-append : (s : List ℕ) (p : ℕ) (a b : List Role) → walk s p (a ++ 
 unfolding walk
 walk-append s p [] b = ap (λ (q : ℕ). walk s q b) (sym (add-zero p))
 walk-append s p (r ∷ a) b =
-    ap (λ (f : Fault). cond (faulty s p r) (At p) f) (walk-append s (p + 1) a b)
+    ap (λ (f : Fault). cond (faulty s p r) (Some p) f) (walk-append s (p + 1) a b)
     ∙ cond-first (faulty s p r) p (walk s (p + 1) a) (walk s (p + 1 + length a) b)
     ∙ ap (λ (q : ℕ). first_of (walk s p (r ∷ a)) (walk s q b)) (omega arith)
 
 -- a part of the layout with no rule
 pub record Clean (l : List Role) : Type 0 where
-  pub none : (s : List ℕ) (p : ℕ) → walk s p l ≡ Nothing
+  pub none : (s : List ℕ) (p : ℕ) → walk s p l ≡ None
 
 pub clean-append : {a b : List Role} → Clean a → Clean b → Clean (a ++ b)
 clean-append {a} {b} f g =
@@ -78,9 +77,9 @@ clean-counts : (e : ℕ) → Clean (times e (count ∷ []))
 unfolding breaks
 clean-counts e = clean-times e (free count (λ s p. refl))
 
-first-nothing : (f : Fault) → first_of f Nothing ≡ f
-first-nothing (At p) = refl
-first-nothing Nothing = refl
+first-nothing : (f : Fault) → first_of f None ≡ f
+first-nothing (Some p) = refl
+first-nothing None = refl
 
 -- what follows has no rule
 pub walk-front : (s : List ℕ) (p : ℕ) (a b : List Role) → Clean b → walk s p (a ++ b) ≡ walk s p a
@@ -94,7 +93,7 @@ pub walk-record : (s : List ℕ) (p e : ℕ) → walk s p (record_roles e) ≡ w
 unfolding record_roles
 walk-record s p e = walk-front s p sequence_roles (times e (count ∷ [])) (clean-counts e)
 
-pub times_none : (s : List ℕ) (p : ℕ) (l : List Role) → walk s p (times 0 l) ≡ Nothing
+pub times_none : (s : List ℕ) (p : ℕ) (l : List Role) → walk s p (times 0 l) ≡ None
 unfolding times walk
 times_none s p l = refl
 
@@ -106,7 +105,7 @@ times_more s p i l {f} {g} q e k h =
     rw (add-one, walk-append s p (times i l) l, z, e, h)
 
 -- past the end of the card nothing is at fault
-pub none-there : (s : List ℕ) (p : ℕ) (l : List Role) → words_in s ≤ p → walk s p l ≡ Nothing
+pub none-there : (s : List ℕ) (p : ℕ) (l : List Role) → words_in s ≤ p → walk s p l ≡ None
 unfolding walk
 none-there s p [] h = refl
 none-there s p (r ∷ l) h = rw (← absent s p r h) (none-there s (p + 1) l (omega arith))

@@ -3,58 +3,41 @@
 
 ghost use Rattle.std.specs.Prelude.{◌≡◌, cond, [], ◌∷◌, ◌^◌, ◌<◌};
 ghost use Rattle.card_layout.specs.Layout.{at_most, sequence, indices, coordinate, faulty, times, sequence_roles, record_roles};
-ghost use Rattle.card_faults.specs.Walk.{walk, first_of, earlier};
+ghost use Rattle.card_faults.specs.Walk.{walk, earlier};
 
 use card_layout::{coordinate_breaks, coordinate_of, indices_break, length_of, sequence_breaks};
 use numbers::word_at;
 
-// The place of a word at fault.
-#[derive(Clone, Copy)]
-pub enum Fault {
-    At(usize),
-    Nothing,
-}
-
-fn fault_if(bad: bool, p: usize, rest: Fault) -> Fault
-    ensures { result ≡ cond bad (Fault.At p) rest }
+fn fault_if(bad: bool, p: usize, rest: Option<usize>) -> Option<usize>
+    ensures { result ≡ cond bad (Some p) rest }
 {
     if bad {
-        return Fault::At(p);
+        return Some(p);
     }
     rest
 }
 
-// The first of two, where the places of a are below those of b.
-pub fn first_of(a: Fault, b: Fault) -> Fault
-    ensures { result ≡ first_of a b }
-{
-    match a {
-        Fault::At(p) => Fault::At(p),
-        Fault::Nothing => b,
-    }
-}
-
 // The lower of two places.
-pub fn earlier(a: Fault, b: Fault) -> Fault
+pub fn earlier(a: Option<usize>, b: Option<usize>) -> Option<usize>
     ensures { result ≡ earlier a b }
 {
     match a {
-        Fault::At(p) => match b {
-            Fault::At(q) => fault_if(p <= q, p, Fault::At(q)),
-            Fault::Nothing => Fault::At(p),
+        Some(p) => match b {
+            Some(q) => fault_if(p <= q, p, Some(q)),
+            None => Some(p),
         },
-        Fault::Nothing => b,
+        None => b,
     }
 }
 
 // A word that is a whole number up to a limit.
-pub fn limit_fault(card: &[u8], p: usize, limit: u64) -> Fault
+pub fn limit_fault(card: &[u8], p: usize, limit: u64) -> Option<usize>
     ensures { result ≡ walk card.now p (at_most limit ∷ []) }
 {
     if p < card.len() / 8 {
-        return fault_if(limit < word_at(card, p), p, Fault::Nothing);
+        return fault_if(limit < word_at(card, p), p, None);
     }
-    Fault::Nothing
+    None
 }
 
 fn sequence_faulty(card: &[u8], p: usize) -> bool
@@ -87,7 +70,7 @@ fn coordinate_faulty(card: &[u8], p: usize) -> bool
     false
 }
 
-fn sequence_fault(card: &[u8], p: usize) -> Fault
+fn sequence_fault(card: &[u8], p: usize) -> Option<usize>
     requires { p < 2 ^ 41 }
     ensures { result ≡ walk card.now p sequence_roles }
 {
@@ -95,7 +78,7 @@ fn sequence_fault(card: &[u8], p: usize) -> Fault
     let p2 = p1 + 1;
     let p3 = p2 + 1;
     let p4 = p3 + 1;
-    let f4 = fault_if(indices_faulty(card, p4, 3), p4, Fault::Nothing);
+    let f4 = fault_if(indices_faulty(card, p4, 3), p4, None);
     let f3 = fault_if(indices_faulty(card, p3, 2), p3, f4);
     let f2 = fault_if(indices_faulty(card, p2, 1), p2, f3);
     let f1 = fault_if(indices_faulty(card, p1, 0), p1, f2);
@@ -103,34 +86,27 @@ fn sequence_fault(card: &[u8], p: usize) -> Fault
 }
 
 // The n records from place p on, each with e counts.
-pub fn records_fault(card: &[u8], p: usize, e: usize, n: usize) -> Fault
+pub fn records_fault(card: &[u8], p: usize, e: usize, n: usize) -> Option<usize>
     requires { (p < 2 ^ 40) × (e < 2 ^ 8) × (n < 2 ^ 16) }
     ensures { result ≡ walk card.now p (times n (record_roles e)) }
 {
-    let mut f = Fault::Nothing;
+    let mut f = None;
     let mut q = p;
-    let mut i: usize = 0;
-    while i < n {
-        let g = sequence_fault(card, q);
-        f = first_of(f, g);
-        q = q + (5 + e);
-        i += 1;
+    for _ in 0..n {
+        f = f.or(sequence_fault(card, q));
+        q += 5 + e;
     }
     f
 }
 
 // The n coordinates from place p on.
-pub fn coordinates_fault(card: &[u8], p: usize, n: usize) -> Fault
+pub fn coordinates_fault(card: &[u8], p: usize, n: usize) -> Option<usize>
     requires { (p < 2 ^ 40) × (n < 2 ^ 16) }
     ensures { result ≡ walk card.now p (times n (coordinate ∷ [])) }
 {
-    let mut f = Fault::Nothing;
-    let mut i: usize = 0;
-    while i < n {
-        let q = p + i;
-        let g = fault_if(coordinate_faulty(card, q), q, Fault::Nothing);
-        f = first_of(f, g);
-        i += 1;
+    let mut f = None;
+    for q in p..p + n {
+        f = f.or(fault_if(coordinate_faulty(card, q), q, None));
     }
     f
 }

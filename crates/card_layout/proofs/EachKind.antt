@@ -1,23 +1,43 @@
 -- The kinds, one by one, and what word 0's rule says of each field. Assumes nothing.
 use Prim.Native.Nat.{ℕ, zero, suc, ◌≤◌, ◌<◌, zero-le}
-use mathlib.Core.Bool.{false, ◌||◌, ◌&&◌}
-use mathlib.Core.Path.{◌≡◌, refl, sym}
+use mathlib.Core.Bool.{true, false, ◌||◌, ◌&&◌}
+use mathlib.Core.Path.{◌≡◌, refl, sym, ap, ◌∙◌}
 use mathlib.Core.Logic.{◌⊎◌, inl, inr, ⊎_elim}
 use native.Mathlib.Nat.{eq-or-lt_of_le}
 use native.Mathlib.Omega.{arith}
 use lib.Arith.{le-zero}
-use borrow.Author.Tests.{ne_eqb, eq-eqb, lt-ltb, ltb-false, eqb-false}
+use borrow.Author.Tests.{ne_eqb, eq-eqb, lt-ltb, ltb-true, ltb-false, eqb-false}
 use lib.Dec.{ltb, eqb, lit≤}
 use Rattle.booleans.proofs.Joined.{neither, second-not}
 use Rattle.card_layout.specs.declared.Header.{Header}
+use Rattle.card_layout.specs.declared.kind.Kind.{Kind}
+use Rattle.card_layout.specs.Kinds.{number_of}
 use Rattle.card_layout.specs.Limits.{up_to, unknown, limits_of, Keeps, Limited}
 use Rattle.card_layout.specs.Rules.{past, no_matrix, word0_breaks, qubits_break}
 
--- a kind that is not there
-pub limits-none : (k : ℕ) → (k ≡ 1 → ⊥) → (k ≡ 2 → ⊥) → (k ≡ 3 → ⊥) → (k ≡ 4 → ⊥) → (k ≡ 5 → ⊥) → (k ≡ 6 → ⊥) → (k ≡ 7 → ⊥) → up_to 0 0 0 0 0 0 0 ≡ limits_of k
-unfolding limits_of
-limits-none k a b c d e f g =
-    rw (ne_eqb k 1 a, ne_eqb k 2 b, ne_eqb k 3 c, ne_eqb k 4 d, ne_eqb k 5 e, ne_eqb k 6 f, ne_eqb k 7 g)
+-- the number of a card whose kind is told
+pub number-is : {k : ℕ} {x y : Kind} → number_of x ≡ k → x ≡ y → k ≡ number_of y
+number-is e f = sym e ∙ ap number_of f
+
+-- a number that no kind has
+pub other-kind : (k : ℕ) → (1 ≤ k → k ≤ 7 → ⊥) → unknown k ≡ true
+unfolding unknown
+other-kind zero h = refl
+other-kind (suc k) h = rw (ne_eqb (suc k) 0 (λ e. omega arith), lt-ltb 7 (suc k) (omega arith)) refl
+
+pub not-other : {A : Type 0} (k : ℕ) → 1 ≤ k → k ≤ 7 → unknown k ≡ true → A
+unfolding unknown
+not-other zero l m e = absurd (omega arith)
+not-other (suc k) l m e = let d = rw (ne_eqb (suc k) 0 (λ q. omega arith)) at e in absurd (omega (arith, ltb-true 7 (suc k) d))
+
+-- it lacks every field
+pub limits-none : (k : ℕ) → unknown k ≡ true → up_to 0 0 0 0 0 0 0 ≡ limits_of k
+unfolding limits_of unknown
+limits-none zero e = refl
+limits-none (suc k) e =
+    let d = rw (ne_eqb (suc k) 0 (λ q. omega arith)) at e in
+    let h : 7 < suc k = ltb-true 7 (suc k) d in
+    rw (ne_eqb (suc k) 1 (omega arith), ne_eqb (suc k) 2 (omega arith), ne_eqb (suc k) 3 (omega arith), ne_eqb (suc k) 4 (omega arith), ne_eqb (suc k) 5 (omega arith), ne_eqb (suc k) 6 (omega arith), ne_eqb (suc k) 7 (omega arith))
 
 -- what holds of each kind that is there
 pub by_kind : (P : ℕ → Type 0) → P 1 → P 2 → P 3 → P 4 → P 5 → P 6 → P 7 → (k : ℕ) → 1 ≤ k → k ≤ 7 → P k

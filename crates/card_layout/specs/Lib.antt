@@ -1,4 +1,5 @@
 pub mod Fields
 pub mod Limits
+pub mod Kinds
 pub mod Rules
 pub mod Layout

@@ -6,7 +6,9 @@ ghost use Rattle.card_layout.specs.Fields.{header_of, coordinate_of, length_of, 
 ghost use Rattle.card_layout.specs.Limits.{up_to, limits_of};
 ghost use Rattle.card_layout.specs.Rules.{past, word0_breaks, qubits_break, sequence_breaks, used_in, indices_break, coordinate_breaks};
 
-use booleans::{both, either, less, nonzero, opposite, pick, same};
+mod kind;
+
+pub use kind::{Kind, UnknownKind};
 
 // The fields of word 0.
 #[derive(Clone, Copy)]
@@ -90,39 +92,22 @@ fn up_to(k: usize, n: usize, d: usize, e: usize, g: usize, r: usize, c: usize) -
 fn limits_of(k: usize) -> Header
     ensures { result ≡ limits_of k }
 {
-    if k == 1 {
-        return up_to(1, 3, 0, 0, 0, 0, 0);
+    match Kind::try_from(k) {
+        Ok(kind) => kind.limits(),
+        Err(_) => up_to(0, 0, 0, 0, 0, 0, 0),
     }
-    if k == 2 {
-        return up_to(2, 0, 16, 0, 0, 0, 0);
-    }
-    if k == 3 {
-        return up_to(3, 2, 0, 0, 0, 0, 0);
-    }
-    if k == 4 {
-        return up_to(4, 2, 0, 0, 0, 0, 0);
-    }
-    if k == 5 {
-        return up_to(5, 0, 16, 16, 8, 200, 64);
-    }
-    if k == 6 {
-        return up_to(6, 0, 16, 16, 8, 0, 0);
-    }
-    if k == 7 {
-        return up_to(7, 0, 16, 16, 8, 200, 0);
-    }
-    up_to(0, 0, 0, 0, 0, 0, 0)
 }
 
+// Each name stands for the test of its field and those after it.
 fn past(m: Header, h: Header) -> bool
     ensures { result ≡ past m h }
 {
-    let b6 = either(less(m.coordinates, h.coordinates), less(m.rest, h.rest));
-    let b5 = either(less(m.records, h.records), b6);
-    let b4 = either(less(m.gates, h.gates), b5);
-    let b3 = either(less(m.effects, h.effects), b4);
-    let b2 = either(less(m.dimension, h.dimension), b3);
-    either(both(same(m.qubits, 0), less(0, h.qubits)), b2)
+    let coordinates = (m.coordinates < h.coordinates) | (m.rest < h.rest);
+    let records = (m.records < h.records) | coordinates;
+    let gates = (m.gates < h.gates) | records;
+    let effects = (m.effects < h.effects) | gates;
+    let dimension = (m.dimension < h.dimension) | effects;
+    ((m.qubits == 0) & (0 < h.qubits)) | dimension
 }
 
 // Whether word 0 is at fault.
@@ -130,9 +115,9 @@ pub fn word0_breaks(h: Header) -> bool
     ensures { result ≡ word0_breaks h }
 {
     let k = h.kind;
-    let unknown = either(same(k, 0), less(7, k));
-    let no_matrix = both(same(k, 2), same(h.dimension, 0));
-    either(unknown, either(no_matrix, past(limits_of(k), h)))
+    let unknown = (k == 0) | (7 < k);
+    let no_matrix = (k == 2) & (h.dimension == 0);
+    unknown | (no_matrix | past(limits_of(k), h))
 }
 
 // Whether n, where the kind has it, is 0 or above its limit.
@@ -141,28 +126,22 @@ pub fn qubits_break(h: Header) -> bool
 {
     let n = h.qubits;
     let m = limits_of(h.kind).qubits;
-    both(less(0, m), either(same(n, 0), less(m, n)))
+    (0 < m) & ((n == 0) | (m < n))
 }
 
 // Whether a record's first word is at fault.
 pub fn sequence_breaks(w: u64) -> bool
     ensures { result ≡ sequence_breaks w }
 {
-    either(less(64, length_of(w)), nonzero(w % 0x100_0000_0000_0000))
+    (64 < length_of(w)) | (w % 0x100_0000_0000_0000 != 0)
 }
 
+// How many of the 16 gate indices of a record's index word j its sequence uses.
 fn used_in(len: usize, j: usize) -> usize
     requires { j < 4 }
     ensures { result ≡ used_in len j }
 {
-    let from = 16 * j;
-    if len <= from {
-        return 0;
-    }
-    if len - from < 16 {
-        return len - from;
-    }
-    16
+    len.saturating_sub(16 * j).min(16)
 }
 
 // Whether index word j of a record is at fault, the record's sequence being `len` gates long.
@@ -172,20 +151,20 @@ pub fn indices_break(len: usize, j: usize, w: u64) -> bool
 {
     let used = used_in(len, j);
     if used == 0 {
-        return nonzero(w);
+        return w != 0;
     }
     let unused = 1u64 << (4 * (16 - used));
-    nonzero(w % unused)
+    w % unused != 0
 }
 
 // Whether a coordinate is at fault.
 pub fn coordinate_breaks(c: Coordinate) -> bool
     ensures { result ≡ coordinate_breaks c }
 {
-    let k = c.kind;
-    let which = opposite(same(c.which, 0));
-    let row = opposite(same(c.row, 0));
-    let gate = pick(same(k, 3), false, true);
-    let effect = pick(same(k, 2), row, gate);
-    pick(same(k, 1), either(which, row), effect)
+    match c.kind {
+        1 => (c.which != 0) | (c.row != 0),
+        2 => c.row != 0,
+        3 => false,
+        _ => true,
+    }
 }

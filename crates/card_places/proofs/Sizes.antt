@@ -13,6 +13,10 @@ use Rattle.card_layout.proofs.EachKind.{at-kind, few-qubits}
 use Rattle.card_places.specs.Places.{wanted_words, model_words}
 use Rattle.card_places.proofs.ByKind.{at5, at6, at7, words1, words2, words3, words4, words5, words6, words7}
 
+-- two numbers of 16 bits have a product of 32
+pub product-fits : (a b : ℕ) → a ≤ 65536 → b ≤ 65536 → a * b ≤ 4294967296
+product-fits a b h k = product_le a b 65536 65536 h k
+
 -- a result that is m has m's bound
 pub bounded : {r m n : ℕ} → r ≡ m → m ≤ n → (r ≡ m) × (r ≤ n)
 bounded e h = (e, omega arith)

@@ -5,36 +5,27 @@ ghost use Rattle.std.specs.Prelude.{◌≡◌, ◌+◌, ◌*◌, ◌^◌, ◌≤
 ghost use Rattle.card_layout.specs.Limits.{Limited};
 ghost use Rattle.card_places.specs.Places.{wanted_words, model_at, model_words, effect_at, gate_name_at, gate_at, after_model, record_words, record_at, index_at, count_at, coordinate_at};
 
-use card_layout::Header;
+use card_layout::{Header, Kind};
 use sizes::{four_to, square};
-
-fn product(a: usize, b: usize) -> usize
-    requires { (a ≤ 2 ^ 16) × (b ≤ 2 ^ 16) }
-    ensures { (result ≡ a * b) × (result ≤ 2 ^ 32) }
-{
-    a * b
-}
 
 pub fn model_words(h: Header) -> usize
     requires { Limited h }
     ensures { (result ≡ model_words h) × (result ≤ 2328) }
 {
     let d = h.dimension;
-    let w = 1 + square(d);
-    d + product(h.effects, d) + product(h.gates, w)
+    d + h.effects * d + h.gates * (1 + square(d))
 }
 
 // The model, and its state.
+#[tactic(auto, unfolding(crate::specs::Places::model_at))]
 pub fn model_at(h: Header) -> usize
     ensures { (result ≡ model_at h) × (result ≤ 9) }
 {
-    if h.kind == 5 {
-        return 9;
+    match h.kind {
+        5 => 9,
+        6 => 1,
+        _ => 2,
     }
-    if h.kind == 6 {
-        return 1;
-    }
-    2
 }
 
 pub fn effect_at(h: Header, k: usize) -> usize
@@ -42,7 +33,7 @@ pub fn effect_at(h: Header, k: usize) -> usize
     ensures { result ≡ effect_at h k }
 {
     let d = h.dimension;
-    model_at(h) + d + product(k, d)
+    model_at(h) + d + k * d
 }
 
 pub fn gate_name_at(h: Header, g: usize) -> usize
@@ -50,8 +41,7 @@ pub fn gate_name_at(h: Header, g: usize) -> usize
     ensures { (result ≡ gate_name_at h g) × (result < 2 ^ 34) }
 {
     let d = h.dimension;
-    let w = 1 + square(d);
-    model_at(h) + d + product(h.effects, d) + product(g, w)
+    model_at(h) + d + h.effects * d + g * (1 + square(d))
 }
 
 pub fn gate_at(h: Header, g: usize) -> usize
@@ -80,7 +70,7 @@ pub fn record_at(h: Header, r: usize) -> usize
     requires { Limited h × (r < 2 ^ 16) }
     ensures { (result ≡ record_at h r) × (result < 2 ^ 34) }
 {
-    after_model(h) + product(r, record_words(h))
+    after_model(h) + r * record_words(h)
 }
 
 pub fn index_at(h: Header, r: usize, k: usize) -> usize
@@ -101,8 +91,7 @@ pub fn coordinate_at(h: Header, c: usize) -> usize
     requires { Limited h × (c < 2 ^ 16) }
     ensures { (result ≡ coordinate_at h c) × (result < 2 ^ 35) }
 {
-    let n = h.records;
-    record_at(h, n) + c
+    record_at(h, h.records) + c
 }
 
 // How many words the card must have.
@@ -110,28 +99,17 @@ pub fn wanted(h: Header) -> usize
     requires { Limited h }
     ensures { result ≡ wanted_words h }
 {
-    let k = h.kind;
     let d = h.dimension;
     let n = h.qubits;
-    if k == 1 {
-        return 2 + four_to(n);
+    match Kind::try_from(h.kind) {
+        Ok(Kind::Density) => 2 + four_to(n),
+        Ok(Kind::Projected) => 3 + 2 * square(d),
+        Ok(Kind::Process) => 2 + 2 * square(four_to(n)),
+        Ok(Kind::Physical) => 3 + square(four_to(n)),
+        Ok(Kind::Fit) => coordinate_at(h, h.coordinates),
+        Ok(Kind::Model) => after_model(h) + square(d),
+        Ok(Kind::Diagnostics) => record_at(h, h.records),
+        // The limits know no other kind.
+        Err(_) => 0,
     }
-    if k == 2 {
-        return 3 + 2 * square(d);
-    }
-    if k == 3 {
-        return 2 + 2 * square(four_to(n));
-    }
-    if k == 4 {
-        return 3 + square(four_to(n));
-    }
-    if k == 5 {
-        let c = h.coordinates;
-        return coordinate_at(h, c);
-    }
-    if k == 6 {
-        return after_model(h) + square(d);
-    }
-    let r = h.records;
-    record_at(h, r)
 }

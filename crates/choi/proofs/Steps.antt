@@ -1,20 +1,14 @@
 -- What the loops store, step by step. Assumes nothing.
-use mathlib.Core.Path.{◌≡◌, sym, ◌∙◌, ap, subst}
+use mathlib.Core.Path.{◌≡◌, sym, ◌∙◌, subst}
 use mathlib.Core.List.{List}
-use Prim.Native.Nat.{ℕ, ◌+◌, ◌*◌, ◌%◌, ◌^◌, ◌<◌, ◌≤◌}
-use native.Mathlib.Nat.{mul-le-mul}
-use native.Mathlib.Omega.{arith}
-use lib.Dec.{lit≤}
+use Prim.Native.Nat.{ℕ, ◌+◌, ◌*◌, ◌%◌, ◌^◌, ◌≤◌}
 use lib.IntN.{pos}
 use lib.ListN.{set, length}
 use lib.Ieee.{Float, of_int, binary64}
 use Rattle.lists.specs.Build.{build}
 use Rattle.lists.specs.Fold.{fold}
-use Rattle.lists.proofs.Filling.{length-build}
-use Rattle.lists.proofs.Parts.{entry-fits}
 use Rattle.numbers.specs.Number.{zero_f, ◌+ᶠ◌, ◌*ᶠ◌, ◌/ᶠ◌}
 use Rattle.numbers.specs.Slice.{at}
-use Rattle.pauli.proofs.Entries.{below-four}
 use Rattle.pauli.specs.Entry.{filled_column, filled_power, unit_of}
 use Rattle.choi.specs.Sparse.{place_of, share, signed, with_term, with_row, with_pair, with_string}
 
@@ -42,18 +36,6 @@ string-is n p values b a l out e h o = o ∙ rw (h, e)
 
 pub cleared : (n p : ℕ) (l out : List Float) → p ≡ 4 ^ n → length l ≡ 2 * (p * p) → out ≡ build (length l) (λ _. zero_f) → out ≡ build (2 * (4 ^ n * 4 ^ n)) (λ _. zero_f)
 cleared n p l out e h o = o ∙ rw (h, e)
-
-pub values-fit : (a b p m : ℕ) → a < p → b < p → m ≡ p * p → a * p + b < m
-values-fit a b p m h k e = rw e (entry-fits a b p p h k)
-
-pub cleared-long : (l out : List Float) (m : ℕ) → length l ≡ m → out ≡ build (length l) (λ _. zero_f) → length out ≡ m
-cleared-long l out m h o = ap length o ∙ length-build (length l) (λ _. zero_f) ∙ h
-
--- what the numbers of the matrix come to
-pub square-small : (n p : ℕ) → n ≤ 2 → p ≡ 4 ^ n → p * p ≤ 256
-square-small n p h e =
-    let k : p ≤ 16 = subst (λ (k : ℕ). k ≤ 16) (sym e) (below-four (λ n. n ≤ 2 → 4 ^ n ≤ 16) (λ _. lit≤ tt) (λ _. lit≤ tt) (λ _. lit≤ tt) (λ h. absurd (omega arith)) n (omega arith) h) in
-    mul-le-mul k k
 
 pub room : (n p k : ℕ) → p ≡ 4 ^ n → 2 * (4 ^ n * 4 ^ n) ≤ k → 2 * (p * p) ≤ k
 room n p k e h = subst (λ (x : ℕ). 2 * (x * x) ≤ k) (sym e) h

@@ -21,8 +21,7 @@ use Rattle.numbers.proofs.Finite.{each-finite}
 use Rattle.rounding.proofs.Zeros.{add-plain}
 use Rattle.complex.specs.Arithmetic.{times}
 use Rattle.refusal.specs.declared.Refusal.TheVariants.{Operator}
-use Rattle.refusal.specs.declared.Verdict.{Verdict}
-use Rattle.refusal.specs.Verdicts.{finite_or}
+use Rattle.refusal.specs.Verdicts.{Verdict, finite_or}
 use Rattle.pauli.specs.Entry.{filled_column, filled_power, unit_of}
 use Rattle.pauli.proofs.Entries.{column-small}
 use Rattle.choi.specs.Choi.{coefficient, string_number, term, transfer_at, part_at, choi_part, row_at, column_at, on_place, choi_of, choi_tested}

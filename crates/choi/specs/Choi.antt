@@ -11,8 +11,7 @@ use Rattle.numbers.specs.Slice.{at}
 use Rattle.complex.specs.declared.Complex.{Complex}
 use Rattle.complex.specs.Arithmetic.{times, scaled, divided}
 use Rattle.refusal.specs.declared.Refusal.TheVariants.{Operator}
-use Rattle.refusal.specs.declared.Verdict.{Verdict}
-use Rattle.refusal.specs.Verdicts.{first_of, after, finite_or, checked_numbers}
+use Rattle.refusal.specs.Verdicts.{Verdict, first_of, after, finite_or, checked_numbers}
 use Rattle.pauli.specs.Density.{string_part}
 
 -- an entry of a Pauli string, and d

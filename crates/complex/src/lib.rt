@@ -1,16 +1,19 @@
 // Complex numbers, by value.
-#![tactic(auto)]
+#![tactic(auto, unfolding(crate::specs::Arithmetic::plus, crate::specs::Arithmetic::minus, crate::specs::Arithmetic::times, crate::specs::Arithmetic::scaled, crate::specs::Arithmetic::divided, crate::specs::Arithmetic::conjugate, crate::specs::Arithmetic::magnitude, crate::specs::Arithmetic::bound))]
 
 ghost use Rattle.std.specs.Prelude.{◌≡◌};
+ghost use Rattle.numbers.specs.Number.{zero_f};
 ghost use Rattle.complex.specs.Arithmetic.{plus, minus, times, scaled, divided, conjugate, min, magnitude, bound};
 
-#[derive(Clone, Copy)]
+use std::ops::{Add, Div, Mul, Sub};
+
+#[derive(Clone, Copy, Debug, PartialEq)]
 pub struct Complex {
     pub re: f64,
     pub im: f64,
 }
 
-// The smaller of x and y: of a NaN and another the other.
+// The smaller of x and y: of a NaN and another the other. `f64::min` leaves open which of two that compare equal it gives.
 fn min_of(x: f64, y: f64) -> f64
     ensures { result ≡ min x y }
 {
@@ -26,53 +29,81 @@ fn min_of(x: f64, y: f64) -> f64
     x
 }
 
-impl Complex {
-    pub fn plus(self, y: Complex) -> Complex
-        ensures { result ≡ plus self y }
-    {
+impl From<f64> for Complex {
+    ghost from_gives = { λ x r. r ≡ record { re = x; im = zero_f } };
+
+    fn from(re: f64) -> Complex {
+        Complex { re, im: 0.0 }
+    }
+}
+
+impl Add for Complex {
+    type Output = Complex;
+
+    ghost add_gives = { λ x y r. r ≡ plus x y };
+
+    fn add(self, y: Complex) -> Complex {
         Complex {
             re: self.re + y.re,
             im: self.im + y.im,
         }
     }
+}
 
-    pub fn minus(self, y: Complex) -> Complex
-        ensures { result ≡ minus self y }
-    {
+impl Sub for Complex {
+    type Output = Complex;
+
+    ghost sub_gives = { λ x y r. r ≡ minus x y };
+
+    fn sub(self, y: Complex) -> Complex {
         Complex {
             re: self.re - y.re,
             im: self.im - y.im,
         }
     }
+}
 
-    pub fn times(self, y: Complex) -> Complex
-        ensures { result ≡ times self y }
-    {
+impl Mul for Complex {
+    type Output = Complex;
+
+    ghost mul_gives = { λ x y r. r ≡ times x y };
+
+    fn mul(self, y: Complex) -> Complex {
         Complex {
             re: self.re * y.re - self.im * y.im,
             im: self.re * y.im + self.im * y.re,
         }
     }
+}
 
-    // By a real number, part by part.
-    pub fn scaled(self, c: f64) -> Complex
-        ensures { result ≡ scaled self c }
-    {
+// By a real number, part by part.
+impl Mul<f64> for Complex {
+    type Output = Complex;
+
+    ghost mul_gives = { λ x c r. r ≡ scaled x c };
+
+    fn mul(self, c: f64) -> Complex {
         Complex {
             re: self.re * c,
             im: self.im * c,
         }
     }
+}
 
-    pub fn divided(self, c: f64) -> Complex
-        ensures { result ≡ divided self c }
-    {
+impl Div<f64> for Complex {
+    type Output = Complex;
+
+    ghost div_gives = { λ x c r. r ≡ divided x c };
+
+    fn div(self, c: f64) -> Complex {
         Complex {
             re: self.re / c,
             im: self.im / c,
         }
     }
+}
 
+impl Complex {
     pub fn conjugate(self) -> Complex
         ensures { result ≡ conjugate self }
     {

@@ -12,7 +12,7 @@ use Rattle.lists.specs.Fold.{fold}
 use Rattle.lists.proofs.Filling.{Filled, fill_more, fill-all, build-same, get_or-build, length-build}
 use Rattle.lists.proofs.Folding.{fold_same, fold_end, build-fold}
 use Rattle.numbers.specs.Number.{zero_f, half_f}
-use Rattle.numbers.specs.Slice.{at, blank}
+use Rattle.numbers.specs.Slice.{at}
 use Rattle.complex.specs.declared.Complex.{Complex}
 use Rattle.complex.specs.Arithmetic.{plus, times, scaled, conjugate}
 use Rattle.entries.specs.Entries.{entries, entry_at, nowhere, matrix}
@@ -68,8 +68,7 @@ module _ (n : ℕ) (v : List Complex) (k : ℕ) (p : Float) where
 abbrev pub terms_added : ℕ → List Complex → List Float → ℕ → List Complex → List Complex
 terms_added n v p k e = with_term n v k (at p k) e
 
-pub zeros : (m : ℕ) (l : List Float) → length l ≡ 2 * m → entries (blank l) ≡ build m (λ _. real zero_f)
-unfolding blank
+pub zeros : (m : ℕ) (l : List Float) → length l ≡ 2 * m → entries (build (length l) (λ _. zero_f)) ≡ build m (λ _. real zero_f)
 zeros m l h =
     let z = build (length l) (λ _. zero_f) in
     let q : length z ≡ 2 * m = length-build (length l) (λ _. zero_f) ∙ h in

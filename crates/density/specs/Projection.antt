@@ -1,6 +1,7 @@
 -- The density matrix nearest to an estimate (Smolin, Gambetta and Smith 2012): the estimate's Hermitian part keeps its eigenvectors, and its eigenvalues become
 -- the nearest probabilities. In float operations, and with the tests in the order, that the Rust's `project_density_with_tolerance` has.
-use Rattle.std.specs.Prelude.{cond, not, List, [], ℕ, Float}
+use Rattle.refusal.specs.Verdicts.{good, Verdict, first_of, after, finite_or}
+use Rattle.std.specs.Prelude.{Err, cond, not, List, [], ℕ, Float}
 use Rattle.lists.specs.Fold.{fold}
 use Rattle.numbers.specs.Number.{zero_f, positive, half_f}
 use Rattle.numbers.specs.Slice.{at, all_finite}
@@ -11,9 +12,6 @@ use Rattle.turns.specs.Rotation.{real}
 use Rattle.eigen.specs.Jacobi.{Spectrum, spectrum, unknown, eig_of}
 use Rattle.filling.specs.Filling.{filling}
 use Rattle.refusal.specs.declared.Refusal.TheVariants.{NonFinite, InvalidTolerance, Operator, EigensolverDidNotConverge}
-use Rattle.refusal.specs.declared.Verdict.{Verdict}
-use Rattle.refusal.specs.declared.Verdict.TheVariants.{Good, Refused}
-use Rattle.refusal.specs.Verdicts.{first_of, after, finite_or}
 
 -- the Hermitian part: half of the estimate plus its adjoint
 unfoldable pub halved_at : ℕ → List Complex → ℕ → ℕ → Complex
@@ -41,14 +39,14 @@ spectral_numbers n unknown = []
 -- `eig` refuses where its rotations are used up, `Operator::try_new` a part that is not finite
 unfoldable pub spectral_verdict : ℕ → Spectrum → Verdict
 spectral_verdict n (spectrum w v) = finite_or Operator (spectral_numbers n (spectrum w v))
-spectral_verdict n unknown = Refused EigensolverDidNotConverge
+spectral_verdict n unknown = Err EigensolverDidNotConverge
 
 -- what is tested before: that the estimate is finite, then the tolerance
 unfoldable pub admission : Float → List Float → Verdict
 admission tolerance e =
-    cond (not (all_finite e)) (Refused NonFinite)
-    (cond (not (positive tolerance)) (Refused InvalidTolerance)
-    Good)
+    cond (not (all_finite e)) (Err NonFinite)
+    (cond (not (positive tolerance)) (Err InvalidTolerance)
+    good)
 
 abbrev pub spectrum_of : ℕ → Float → ℕ → List Float → Spectrum
 spectrum_of n tolerance rotations e = eig_of n tolerance rotations (halved n (entries e))

@@ -1,5 +1,5 @@
 // The density matrix nearest to an estimate (kind 2).
-#![tactic(auto)]
+#![tactic(auto, using(lists::proofs::Folding::fold_more), unfolding(lists::specs::Fold::fold, entries::specs::Laid::laid_row, entries::specs::Laid::changed_row, crate::specs::Projection::halved_at, crate::specs::Steps::with_row))]
 
 ghost use Rattle.std.specs.Prelude.{◌≡◌, ◌*◌, ◌≤◌, ◌<◌, length};
 ghost use Rattle.lists.specs.Build.{over};
@@ -9,17 +9,13 @@ ghost use Rattle.density.specs.Projection as spec;
 ghost use Rattle.density.specs.Steps as steps;
 
 use complex::Complex;
-use eigen::matrix_room;
-use refusal::{Refusal, Verdict};
-use sizes::square;
+use refusal::Refusal;
 
 fn halved_at(e: &[f64], n: usize, i: usize, j: usize) -> Complex
     requires { (length e.now ≡ 2 * (n * n)) × (i < n) × (j < n) }
     ensures { result ≡ spec.halved_at n (entries e.now) i j }
 {
-    let x = entries::read(e, n, i, j);
-    let y = entries::read(e, n, j, i);
-    x.plus(y.conjugate()).scaled(0.5)
+    (entries::read(e, n, i, j) + entries::read(e, n, j, i).conjugate()) * 0.5
 }
 
 // Row i of the Hermitian part.
@@ -59,8 +55,7 @@ fn add_row(x: Complex, u: &[f64], n: usize, i: usize, out: &mut [f64])
 {
     for j in 0..n {
         let sum = entries::read(out, n, i, j);
-        let y = entries::get(u, j);
-        entries::write(out, n, i, j, sum.plus(x.times(y)));
+        entries::write(out, n, i, j, sum + x * entries::get(u, j));
     }
 }
 
@@ -71,19 +66,7 @@ fn add_term(v: &[f64], n: usize, k: usize, p: f64, u: &mut [f64], out: &mut [f64
 {
     conjugate_column(v, n, k, u);
     for i in 0..n {
-        let x = entries::read(v, n, i, k);
-        add_row(x.scaled(p), u, n, i, out);
-    }
-}
-
-// The mixture, with room for a row.
-fn mix_in(v: &[f64], n: usize, p: &[f64], u: &mut [f64], out: &mut [f64])
-    requires { (length v.now ≡ 2 * (n * n)) × (length p.now ≡ n) × (length u.old ≡ 2 * n) × (length out.old ≡ 2 * (n * n)) }
-    ensures { entries out.new ≡ spec.mixed n (entries v.now) p.now }
-{
-    numbers::clear(out);
-    for k in 0..n {
-        add_term(v, n, k, p[k], u, out);
+        add_row(entries::read(v, n, i, k) * p, u, n, i, out);
     }
 }
 
@@ -92,92 +75,50 @@ fn mix(v: &[f64], n: usize, p: &[f64], out: &mut [f64])
     requires { (length v.now ≡ 2 * (n * n)) × (length p.now ≡ n) × (length out.old ≡ 2 * (n * n)) × (n ≤ 16) }
     ensures { entries out.new ≡ spec.mixed n (entries v.now) p.now }
 {
-    let parts = 2 * n;
     let mut u = [0.0; 32];
-    mix_in(v, n, p, &mut u[..parts], out);
-}
-
-// The projection into r, with room for eigenvectors and eigenvalues.
-fn project_in(
-    e: &[f64],
-    n: usize,
-    tolerance: f64,
-    rotations: u64,
-    v: &mut [f64],
-    w: &mut [f64],
-    r: &mut [f64],
-) -> Verdict
-    requires { (length e.now ≡ 2 * (n * n)) × (length v.old ≡ 2 * (n * n)) × (length w.old ≡ n) × (length r.old ≡ 2 * (n * n)) × (0 < n) × (n ≤ 16) }
-    ensures { (result ≡ spec.spectral_verdict n (spec.spectrum_of n tolerance rotations e.now))
-        × (spec.where_good result r.new ≡ spec.where_good result (spec.spectral_numbers n (spec.spectrum_of n tolerance rotations e.now))) }
-{
-    halve(e, n, v);
-    if !eigen::eigen(v, n, tolerance, rotations, w) {
-        return Verdict::Refused(Refusal::EigensolverDidNotConverge);
-    }
-    filling::fill(w);
-    mix(v, n, w, r);
-    refusal::finite_or(Refusal::Operator, r)
-}
-
-// The same, and copied to the front of `out` where it is good.
-fn project_onto(
-    e: &[f64],
-    n: usize,
-    tolerance: f64,
-    rotations: u64,
-    v: &mut [f64],
-    w: &mut [f64],
-    r: &mut [f64],
-    out: &mut [f64],
-) -> Verdict
-    requires { (length e.now ≡ 2 * (n * n)) × (length v.old ≡ 2 * (n * n)) × (length w.old ≡ n) × (length r.old ≡ 2 * (n * n)) × (0 < n) × (n ≤ 16) × (2 * (n * n) ≤ length out.old) }
-    ensures { (result ≡ spec.spectral_verdict n (spec.spectrum_of n tolerance rotations e.now))
-        × (out.new ≡ over (spec.where_good result (spec.spectral_numbers n (spec.spectrum_of n tolerance rotations e.now))) out.old) }
-{
-    let found = project_in(e, n, tolerance, rotations, v, w, r);
-    match found {
-        Verdict::Refused(x) => Verdict::Refused(x),
-        Verdict::Good => {
-            elimination::copy_row(r, 0, r.len(), out);
-            Verdict::Good
-        }
+    let u = &mut u[..2 * n];
+    out.fill(0.0);
+    for (k, x) in p.iter().enumerate() {
+        add_term(v, n, k, *x, u, out);
     }
 }
 
 // The projection at the front of `out`, once estimate and tolerance are admitted.
-fn project(e: &[f64], n: usize, tolerance: f64, rotations: u64, out: &mut [f64]) -> Verdict
+fn project(
+    e: &[f64],
+    n: usize,
+    tolerance: f64,
+    rotations: u64,
+    out: &mut [f64],
+) -> Result<(), Refusal>
     requires { (length e.now ≡ 2 * (n * n)) × (0 < n) × (n ≤ 16) × (2 * (n * n) ≤ length out.old) }
     ensures { (result ≡ spec.spectral_verdict n (spec.spectrum_of n tolerance rotations e.now))
         × (out.new ≡ over (spec.where_good result (spec.spectral_numbers n (spec.spectrum_of n tolerance rotations e.now))) out.old) }
 {
-    let parts = 2 * square(n);
-    let mut v = matrix_room();
+    let mut v = [0.0; 512];
     let mut w = [0.0; 16];
-    let mut r = matrix_room();
-    project_onto(
-        e,
-        n,
-        tolerance,
-        rotations,
-        &mut v[..parts],
-        &mut w[..n],
-        &mut r[..parts],
-        out,
-    )
+    let mut r = [0.0; 512];
+    let v = &mut v[..e.len()];
+    let w = &mut w[..n];
+    let r = &mut r[..e.len()];
+    halve(e, n, v);
+    eigen::eigen(v, n, tolerance, rotations, w).map_err(|_| Refusal::EigensolverDidNotConverge)?;
+    filling::fill(w);
+    mix(v, n, w, r);
+    refusal::finite_or(Refusal::Operator, r)?;
+    out[..r.len()].copy_from_slice(r);
+    Ok(())
 }
 
 // Tests estimate and tolerance.
-fn admit(tolerance: f64, e: &[f64]) -> Verdict
+fn admit(tolerance: f64, e: &[f64]) -> Result<(), Refusal>
     ensures { result ≡ spec.admission tolerance e.now }
 {
-    if !numbers::all_finite(e) {
-        return Verdict::Refused(Refusal::NonFinite);
-    }
+    refusal::finite_or(Refusal::NonFinite, e)?;
     if !numbers::is_positive(tolerance) {
-        return Verdict::Refused(Refusal::InvalidTolerance);
+        return Err(Refusal::InvalidTolerance);
     }
-    Verdict::Good
+    Ok(())
 }
 
 // The Rust's `project_density_with_tolerance`, with a limit on the rotations of `eig`. A good call leaves the density matrix at the front of `out`, real and
@@ -188,13 +129,10 @@ pub fn project_density(
     tolerance: f64,
     rotations: u64,
     out: &mut [f64],
-) -> Verdict
+) -> Result<(), Refusal>
     requires { (length estimate.now ≡ 2 * (d * d)) × (0 < d) × (d ≤ 16) × (2 * (d * d) ≤ length out.old) }
     ensures { (result ≡ spec.projected_verdict d tolerance rotations estimate.now) × (out.new ≡ over (spec.projected_numbers d tolerance rotations estimate.now) out.old) }
 {
-    let found = admit(tolerance, estimate);
-    match found {
-        Verdict::Refused(r) => Verdict::Refused(r),
-        Verdict::Good => project(estimate, d, tolerance, rotations, out),
-    }
+    admit(tolerance, estimate)?;
+    project(estimate, d, tolerance, rotations, out)
 }

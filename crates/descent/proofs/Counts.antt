@@ -1,4 +1,6 @@
 -- How often a fit evaluates. Assumes nothing.
+use Rattle.std.proofs.Common.{Err, None, Ok, Some}
+use Rattle.likelihood.specs.declared.Unfit.TheVariants.{Probabilities, Refused}
 use Prim.Native.Nat.{ℕ, zero, suc, ◌+◌, ◌*◌, ◌≤◌, ◌<◌}
 use mathlib.Core.Bool.{Bool, cond}
 use mathlib.Core.List.{List}
@@ -7,29 +9,23 @@ use native.Mathlib.Omega.{arith}
 use lib.Ieee.{Float, lt}
 use Rattle.lists.specs.Fold.{fold}
 use Rattle.likelihood.specs.declared.Diagnostics.{Diagnostics}
-use Rattle.likelihood.specs.declared.Likelihood.{Likelihood}
-use Rattle.likelihood.specs.declared.Likelihood.TheVariants as likelihood
-use Rattle.descent.specs.declared.Evaluated.{Evaluated}
-use Rattle.descent.specs.declared.Evaluated.TheVariants.{Value, Passed, Broken}
-use Rattle.descent.specs.declared.Search.{Search}
-use Rattle.descent.specs.declared.Search.TheVariants.{Searching, Found, Lost}
+use Rattle.likelihood.specs.Multinomial.{Likelihood}
+use Rattle.descent.specs.Fit.{found, Evaluated, Search, Job, Point, State, going, stopped, refused, Slopes, slopes, unusable, size, iterations, backtracks, evaluate, gradient, flat, trial, judged, onward, search_to, small, counted, searched, step_by, step, next, begin_by, after, closed_by, closed, finished, fit_by, fit_of}
 use Rattle.descent.specs.declared.GstTermination.{GstTermination}
 use Rattle.descent.specs.declared.GstTermination.TheVariants.{GradientTolerance, ObjectiveTolerance, MaximumIterations}
-use Rattle.descent.specs.Fit.{Job, Point, State, going, stopped, refused, Slopes, slopes, unusable}
-use Rattle.descent.specs.Fit.{size, iterations, backtracks, evaluate, gradient, flat, trial, judged, onward, search_to, small, counted, searched, step_by, step, next, begin_by, after, closed_by, closed, finished, fit_by, fit_of}
 use Rattle.descent.specs.Claim.{Counted}
 use Rattle.descent.proofs.Laws.{split}
 
 -- a trial that was found is one of the first n
 abbrev Below : ℕ → Search → Type 0
-Below n Searching = Unit {0}
-Below n (Found k v) = k < n
-Below n (Lost r) = Unit {0}
+Below n (Ok None) = Unit {0}
+Below n (Ok (Some a)) = a.trial < n
+Below n (Err r) = Unit {0}
 
 judge-below : (o : Float) (n : ℕ) (e : Evaluated) → Below (suc n) (judged o n e)
-judge-below o n (Value v) = split (λ (b : Bool). Below (suc n) (cond b (Found n v) Searching)) (lt v o) (λ _. omega arith) (λ _. tt)
-judge-below o n Passed = tt
-judge-below o n (Broken r) = tt
+judge-below o n (Ok (Some v)) = split (λ (b : Bool). Below (suc n) (cond b (found n v) (Ok None))) (lt v o) (λ _. omega arith) (λ _. tt)
+judge-below o n (Ok None) = tt
+judge-below o n (Err r) = tt
 
 abbrev evaluations_in : State → ℕ
 evaluations_in (going p) = p.evaluations
@@ -47,9 +43,9 @@ module _ (J : Job) where
 
   module _ (xs g : List Float) (o : Float) where
     on_below : (n : ℕ) (t : Search) → Below n t → Below (suc n) (onward J xs g o n t)
-    on_below n Searching h = judge-below o n (evaluate J (trial J xs g n))
-    on_below n (Found k v) h = omega arith
-    on_below n (Lost r) h = tt
+    on_below n (Ok None) h = judge-below o n (evaluate J (trial J xs g n))
+    on_below n (Ok (Some a)) h = omega arith
+    on_below n (Err r) h = tt
 
     below : (n : ℕ) → Below n (search_to J xs g o n)
     unfolding search_to fold
@@ -57,11 +53,11 @@ module _ (J : Job) where
     below (suc n) = on_below n (search_to J xs g o n) (below n)
 
   by-search : (p : Point) (g : List Float) (t : Search) → Below (backtracks J) t → evaluations_in (searched J p g t) ≤ p.evaluations + most
-  by-search p g Searching h = omega arith
-  by-search p g (Found k v) h =
-      let q : Point = record { coordinates = trial J p.coordinates g k; objective = v; steps = p.steps + 1; evaluations = p.evaluations + (2 * size J + (k + 1)) } in
-      split (λ (b : Bool). evaluations_in (cond b (stopped ObjectiveTolerance q) (going q)) ≤ p.evaluations + most) (small J p.objective v) (λ _. omega arith) (λ _. omega arith)
-  by-search p g (Lost r) h = omega arith
+  by-search p g (Ok None) h = omega arith
+  by-search p g (Ok (Some a)) h =
+      let q : Point = record { coordinates = trial J p.coordinates g a.trial; objective = a.objective; steps = p.steps + 1; evaluations = p.evaluations + (2 * size J + (a.trial + 1)) } in
+      split (λ (b : Bool). evaluations_in (cond b (stopped ObjectiveTolerance q) (going q)) ≤ p.evaluations + most) (small J p.objective a.objective) (λ _. omega arith) (λ _. omega arith)
+  by-search p g (Err r) h = omega arith
 
   by-gradient : (p : Point) (G : Slopes) → evaluations_in (step_by J p G) ≤ p.evaluations + most
   by-gradient p (slopes g) =
@@ -78,9 +74,9 @@ module _ (J : Job) where
   by-step (refused r) = omega arith
 
   by-start : (L : Likelihood) → evaluations_in (begin_by J L) ≤ 1
-  by-start (likelihood.Fit d) = omega arith
-  by-start likelihood.Failed = omega arith
-  by-start (likelihood.Refused r) = omega arith
+  by-start (Ok d) = omega arith
+  by-start (Err Probabilities) = omega arith
+  by-start (Err (Refused r)) = omega arith
 
   counts : (n : ℕ) → evaluations_in (after J n) ≤ 1 + n * most
   unfolding after fold
@@ -101,9 +97,9 @@ module _ (J : Job) where
   by-finish d (refused r) h = tt
 
   by-fit : (L : Likelihood) → Counted J (fit_by J L)
-  by-fit (likelihood.Fit d) = by-finish d (after J (iterations J)) (counts (iterations J))
-  by-fit likelihood.Failed = tt
-  by-fit (likelihood.Refused r) = tt
+  by-fit (Ok d) = by-finish d (after J (iterations J)) (counts (iterations J))
+  by-fit (Err Probabilities) = tt
+  by-fit (Err (Refused r)) = tt
 
 -- a sheet's evaluations are at most 1 + 2P(I + 1) + I·B
 pub evaluations-bound : (J : Job) → Counted J (fit_of J)

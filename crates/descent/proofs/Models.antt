@@ -1,4 +1,6 @@
 -- Numbers put into a model and read back from it, and what an evaluation of coordinates says of the model that holds them. Assumes nothing.
+use Rattle.std.proofs.Common.{Err, None, Ok, Some}
+use Rattle.likelihood.specs.declared.Unfit.TheVariants.{Probabilities, Refused}
 use Prim.Native.Nat.{ℕ, suc, suc-le-suc, ◌<◌}
 use mathlib.Core.Path.{◌≡◌, refl, sym, ap, ap₂, subst, ◌∙◌}
 use mathlib.Core.Bool.{Bool, true, false, not, cond}
@@ -15,11 +17,8 @@ use Rattle.lists.proofs.Filling.{length-build}
 use Rattle.booleans.proofs.Joined.{neither, and_both}
 use Rattle.numbers.specs.Slice.{at, all_finite}
 use Rattle.refusal.specs.declared.Refusal.TheVariants.{NonFinite}
-use Rattle.likelihood.specs.declared.Likelihood.{Likelihood}
-use Rattle.likelihood.specs.declared.Likelihood.TheVariants as likelihood
-use Rattle.descent.specs.declared.Evaluated.{Evaluated}
-use Rattle.descent.specs.declared.Evaluated.TheVariants.{Value, Passed, Broken}
-use Rattle.descent.specs.Fit.{Job, put, size, coordinates_of, model_of, diagnostics_in, scored, evaluate, trial}
+use Rattle.likelihood.specs.Multinomial.{Likelihood}
+use Rattle.descent.specs.Fit.{Evaluated, Job, put, size, coordinates_of, model_of, diagnostics_in, scored, evaluate, trial}
 use Rattle.descent.specs.Claim.{listed, distinct, Sound, evaluation}
 
 -- ---- numbers in a model
@@ -77,17 +76,17 @@ module _ (J : Job) where
 
   -- what has a value has diagnostics
   abbrev Valued : Evaluated → Type 0
-  Valued (Value o) = Unit {0}
-  Valued Passed = ⊥
-  Valued (Broken r) = ⊥
+  Valued (Ok (Some o)) = Unit {0}
+  Valued (Ok None) = ⊥
+  Valued (Err r) = ⊥
 
-  diagnosed : (b : Bool) (L : Likelihood) (xs : List Float) → Valued (cond b (scored J L xs) (Broken NonFinite)) → L ≡ likelihood.Fit (diagnostics_in L)
-  diagnosed true (likelihood.Fit d) xs v = refl
-  diagnosed true likelihood.Failed xs v = absurd v
-  diagnosed true (likelihood.Refused r) xs v = absurd v
+  diagnosed : (b : Bool) (L : Likelihood) (xs : List Float) → Valued (cond b (scored J L xs) (Err NonFinite)) → L ≡ Ok (diagnostics_in L)
+  diagnosed true (Ok d) xs v = refl
+  diagnosed true (Err Probabilities) xs v = absurd v
+  diagnosed true (Err (Refused r)) xs v = absurd v
   diagnosed false L xs v = absurd v
 
-  pub value-diagnosed : (m : List Float) (o : Float) → evaluation J m ≡ Value o → J.likelihood m ≡ likelihood.Fit (diagnostics_in (J.likelihood m))
+  pub value-diagnosed : (m : List Float) (o : Float) → evaluation J m ≡ Ok (Some o) → J.likelihood m ≡ Ok (diagnostics_in (J.likelihood m))
   unfolding evaluation
   value-diagnosed m o e = diagnosed (all_finite (coordinates_of J m)) (J.likelihood m) (coordinates_of J m) (subst Valued (sym e) tt)
 

@@ -1,4 +1,6 @@
 -- Every sheet of a fit is that of its points. Assumes nothing.
+use Rattle.std.proofs.Common.{Err, Ok}
+use Rattle.likelihood.specs.declared.Unfit.TheVariants.{Probabilities, Refused}
 use Prim.Native.Nat.{ℕ, zero, suc, ◌≤◌, ◌<◌}
 use mathlib.Core.Path.{◌≡◌, refl, sym, ap, ap₂, subst, subst₂, ◌∙◌}
 use mathlib.Core.Bool.{Bool, true, false, cond}
@@ -12,12 +14,10 @@ use Rattle.lists.proofs.Filling.{length-build, get_or-build}
 use Rattle.booleans.proofs.Joined.{clash}
 use Rattle.refusal.specs.declared.Refusal.{Refusal}
 use Rattle.likelihood.specs.declared.Diagnostics.{Diagnostics}
-use Rattle.likelihood.specs.declared.Likelihood.{Likelihood}
-use Rattle.likelihood.specs.declared.Likelihood.TheVariants as likelihood
+use Rattle.likelihood.specs.Multinomial.{Likelihood}
 use Rattle.descent.specs.declared.GstTermination.{GstTermination}
 use Rattle.descent.specs.declared.GstTermination.TheVariants.{GradientTolerance, ObjectiveTolerance, MaximumIterations, LineSearchStalled}
-use Rattle.descent.specs.Fit.{Job, Point, State, going, stopped, refused, Slopes, slopes, unusable}
-use Rattle.descent.specs.Fit.{iterations, coordinates_of, gradient, flat, small, counted, step, next, begin_by, after, reason_at, closed_by, closed, finished, fit_by, fit_of}
+use Rattle.descent.specs.Fit.{Job, Point, State, going, stopped, refused, Slopes, slopes, unusable, iterations, coordinates_of, gradient, flat, small, counted, step, next, begin_by, after, reason_at, closed_by, closed, finished, fit_by, fit_of}
 use Rattle.descent.specs.Claim.{Sound, Accepts, BornOut, DropTo, rank, Claimed, evaluation, objective_at, objective_in, norm_by, refused_trial}
 use Rattle.descent.proofs.Laws.{split, one_more}
 use Rattle.descent.proofs.Models.{put-length, put_other, own, own-evaluation, value-diagnosed}
@@ -83,12 +83,12 @@ module _ (J : Job) where
     advance u e h (gone r) = left r
 
   start : Sound J → (L : Likelihood) → J.likelihood J.model ≡ L → after J 0 ≡ begin_by J L → Reached 0 (begin_by J L)
-  start s (likelihood.Fit d) l e =
+  start s (Ok d) l e =
       on _
       (record {
         good = record {
           read = ap (coordinates_of J) (own J);
-          value = ap (evaluation J) (own J) ∙ own-evaluation J (likelihood.Fit d) s.finite l;
+          value = ap (evaluation J) (own J) ∙ own-evaluation J (Ok d) s.finite l;
         };
         count = refl;
         here = ap model_in e;
@@ -96,8 +96,8 @@ module _ (J : Job) where
         tilted = λ k h. absurd (omega arith);
       })
       (λ k h. absurd (omega arith))
-  start s likelihood.Failed l e = left _
-  start s (likelihood.Refused r) l e = left r
+  start s (Err Probabilities) l e = left _
+  start s (Err (Refused r)) l e = left r
 
   forward : Sound J → (n : ℕ) {u : State} → after J (suc n) ≡ next J u → Reached n u → Reached (suc n) (next J u)
   forward s n e (on p t h) = advance n p t (step J p) e h (stepped J p t.good s)
@@ -111,7 +111,7 @@ module _ (J : Job) where
   reached s zero = start s (J.likelihood J.model) refl refl
   reached s (suc n) = forward s n refl (reached s n)
 
-  first-point : (d : Diagnostics) → J.likelihood J.model ≡ likelihood.Fit d → point 0 ≡ J.model
+  first-point : (d : Diagnostics) → J.likelihood J.model ≡ Ok d → point 0 ≡ J.model
   unfolding after fold
   first-point d l = ap (λ (L : Likelihood). model_in (begin_by J L)) l ∙ own J
 
@@ -168,7 +168,7 @@ module _ (J : Job) where
 
   -- ---- the sheet
 
-  module _ (d : Diagnostics) (l : J.likelihood J.model ≡ likelihood.Fit d) where
+  module _ (d : Diagnostics) (l : J.likelihood J.model ≡ Ok d) where
     closing : (r : GstTermination) (p : Point) → ((g : List Float) → gradient J p.coordinates p.objective ≡ slopes g → Ends p.steps p (reason_at r (flat J g))) → Claimed J (closed J d r p)
     unfolding closed
     closing r p f = go (gradient J p.coordinates p.objective) refl
@@ -220,6 +220,6 @@ unfolding fit_of
 claimed J s = go (J.likelihood J.model) refl
   where
     go : (L : Likelihood) → J.likelihood J.model ≡ L → Claimed J (fit_by J L)
-    go (likelihood.Fit d) l = finishing J d l (reached J s (iterations J))
-    go likelihood.Failed l = tt
-    go (likelihood.Refused r) l = tt
+    go (Ok d) l = finishing J d l (reached J s (iterations J))
+    go (Err Probabilities) l = tt
+    go (Err (Refused r)) l = tt

@@ -1,5 +1,7 @@
 -- By what a fit can be refused: a number that is not finite (3), a gradient that is not (13, reason 5), failing probabilities (8), and what refuses a likelihood.
 -- Assumes nothing.
+use Rattle.std.proofs.Common.{Err, None, Ok, Some}
+use Rattle.likelihood.specs.declared.Unfit.TheVariants.{Probabilities, Refused}
 use Prim.Native.Nat.{ℕ, ◌+◌, ◌*◌}
 use mathlib.Core.Bool.{Bool, cond}
 use mathlib.Core.List.{List, []}
@@ -9,46 +11,39 @@ use Rattle.lists.proofs.Folding.{fold-keeps}
 use Rattle.numbers.specs.Number.{finite, zero_f, two_f, ◌+ᶠ◌, ◌-ᶠ◌, ◌*ᶠ◌, ◌/ᶠ◌}
 use Rattle.numbers.specs.Slice.{at, all_finite}
 use Rattle.refusal.specs.declared.Refusal.{Refusal}
+use Rattle.refusal.specs.declared.Reason.TheVariants.{GradientNotFinite}
 use Rattle.refusal.specs.declared.Refusal.TheVariants.{NonFinite, InvalidProbabilities, InvalidGstOptimization}
 use Rattle.likelihood.specs.declared.Diagnostics.{Diagnostics}
-use Rattle.likelihood.specs.declared.Likelihood.{Likelihood}
-use Rattle.likelihood.specs.declared.Likelihood.TheVariants as likelihood
-use Rattle.descent.specs.declared.Evaluated.{Evaluated}
-use Rattle.descent.specs.declared.Evaluated.TheVariants.{Value, Passed, Broken}
-use Rattle.descent.specs.declared.Derivative.{Derivative}
-use Rattle.descent.specs.declared.Derivative.TheVariants.{Slope, Unusable}
-use Rattle.descent.specs.declared.Search.{Search}
-use Rattle.descent.specs.declared.Search.TheVariants.{Searching, Found, Lost}
+use Rattle.likelihood.specs.Multinomial.{Likelihood}
+use Rattle.descent.specs.Fit.{found, Evaluated, Derivative, Search, Job, Point, State, going, stopped, refused, Slopes, slopes, unusable, Outcome, fitted, unfitted, usable, difference_of, with_slope, judged, size, backtracks, iterations, model_of, scored, evaluate, displacement, derivative, gradient, flat, trial, onward, search_to, small, counted, searched, step_by, step, next, begin_by, after, closed_by, closed, finished, fit_by, fit_of}
 use Rattle.descent.specs.declared.GstTermination.{GstTermination}
 use Rattle.descent.specs.declared.GstTermination.TheVariants.{GradientTolerance, ObjectiveTolerance, MaximumIterations}
-use Rattle.descent.specs.Fit.{Job, Point, State, going, stopped, refused, Slopes, slopes, unusable, Outcome, fitted, unfitted, usable, difference_of, with_slope, judged}
-use Rattle.descent.specs.Fit.{size, backtracks, iterations, model_of, scored, evaluate, displacement, derivative, gradient, flat, trial, onward, search_to, small, counted, searched, step_by, step, next, begin_by, after, closed_by, closed, finished, fit_by, fit_of}
 use Rattle.descent.proofs.Laws.{split}
 
 -- P holds of the refusal that a value carries, if it does
 module _ (P : Refusal → Type 0) where
   abbrev pub InLikelihood : Likelihood → Type 0
-  InLikelihood (likelihood.Fit d) = Unit {0}
-  InLikelihood likelihood.Failed = Unit {0}
-  InLikelihood (likelihood.Refused r) = P r
+  InLikelihood (Ok d) = Unit {0}
+  InLikelihood (Err Probabilities) = Unit {0}
+  InLikelihood (Err (Refused r)) = P r
 
   abbrev InEvaluated : Evaluated → Type 0
-  InEvaluated (Value o) = Unit {0}
-  InEvaluated Passed = Unit {0}
-  InEvaluated (Broken r) = P r
+  InEvaluated (Ok (Some o)) = Unit {0}
+  InEvaluated (Ok None) = Unit {0}
+  InEvaluated (Err r) = P r
 
   abbrev InDerivative : Derivative → Type 0
-  InDerivative (Slope v) = Unit {0}
-  InDerivative (Unusable r) = P r
+  InDerivative (Ok v) = Unit {0}
+  InDerivative (Err r) = P r
 
   abbrev InSlopes : Slopes → Type 0
   InSlopes (slopes g) = Unit {0}
   InSlopes (unusable r) = P r
 
   abbrev InSearch : Search → Type 0
-  InSearch Searching = Unit {0}
-  InSearch (Found k v) = Unit {0}
-  InSearch (Lost r) = P r
+  InSearch (Ok None) = Unit {0}
+  InSearch (Ok (Some a)) = Unit {0}
+  InSearch (Err r) = P r
 
   abbrev InState : State → Type 0
   InState (going p) = Unit {0}
@@ -59,36 +54,36 @@ module _ (P : Refusal → Type 0) where
   InOutcome (fitted f) = Unit {0}
   InOutcome (unfitted r) = P r
 
-module _ (J : Job) (P : Refusal → Type 0) (not-Finite : P NonFinite) (no-gradient : P (InvalidGstOptimization 5)) (failing : P InvalidProbabilities)
+module _ (J : Job) (P : Refusal → Type 0) (not-Finite : P NonFinite) (no-gradient : P (InvalidGstOptimization GradientNotFinite)) (failing : P InvalidProbabilities)
     (likelihoods : (m : List Float) → InLikelihood P (J.likelihood m)) where
   in-scored : (L : Likelihood) (xs : List Float) → InLikelihood P L → InEvaluated P (scored J L xs)
-  in-scored (likelihood.Fit d) xs h = tt
-  in-scored likelihood.Failed xs h = tt
-  in-scored (likelihood.Refused r) xs h = h
+  in-scored (Ok d) xs h = tt
+  in-scored (Err Probabilities) xs h = tt
+  in-scored (Err (Refused r)) xs h = h
 
   in-evaluate : (xs : List Float) → InEvaluated P (evaluate J xs)
   unfolding evaluate
   in-evaluate xs =
-      split (λ (b : Bool). InEvaluated P (cond b (scored J (J.likelihood (model_of J xs)) xs) (Broken NonFinite))) (all_finite xs)
+      split (λ (b : Bool). InEvaluated P (cond b (scored J (J.likelihood (model_of J xs)) xs) (Err NonFinite))) (all_finite xs)
       (λ _. in-scored (J.likelihood (model_of J xs)) xs (likelihoods (model_of J xs)))
       (λ _. not-Finite)
 
   in-usable : (v : Float) → InDerivative P (usable v)
   unfolding usable
-  in-usable v = split (λ (b : Bool). InDerivative P (cond b (Slope v) (Unusable (InvalidGstOptimization 5)))) (finite v) (λ _. tt) (λ _. no-gradient)
+  in-usable v = split (λ (b : Bool). InDerivative P (cond b (Ok v) (Err (InvalidGstOptimization GradientNotFinite)))) (finite v) (λ _. tt) (λ _. no-gradient)
 
   in-difference : (o h : Float) (r l : Evaluated) → InEvaluated P r → InEvaluated P l → InDerivative P (difference_of o h r l)
-  in-difference o h (Value r) (Value l) p q = in-usable ((r -ᶠ l) /ᶠ (two_f *ᶠ h))
-  in-difference o h (Value r) Passed p q = in-usable ((r -ᶠ o) /ᶠ h)
-  in-difference o h (Value r) (Broken x) p q = q
-  in-difference o h Passed (Value l) p q = in-usable ((o -ᶠ l) /ᶠ h)
-  in-difference o h Passed Passed p q = in-usable zero_f
-  in-difference o h Passed (Broken x) p q = q
-  in-difference o h (Broken x) l p q = p
+  in-difference o h (Ok (Some r)) (Ok (Some l)) p q = in-usable ((r -ᶠ l) /ᶠ (two_f *ᶠ h))
+  in-difference o h (Ok (Some r)) (Ok None) p q = in-usable ((r -ᶠ o) /ᶠ h)
+  in-difference o h (Ok (Some r)) (Err x) p q = q
+  in-difference o h (Ok None) (Ok (Some l)) p q = in-usable ((o -ᶠ l) /ᶠ h)
+  in-difference o h (Ok None) (Ok None) p q = in-usable zero_f
+  in-difference o h (Ok None) (Err x) p q = q
+  in-difference o h (Err x) l p q = p
 
   in-with : (g : Slopes) (d : Derivative) → InSlopes P g → InDerivative P d → InSlopes P (with_slope g d)
-  in-with (slopes g) (Slope v) p q = tt
-  in-with (slopes g) (Unusable r) p q = q
+  in-with (slopes g) (Ok v) p q = tt
+  in-with (slopes g) (Err r) p q = q
   in-with (unusable r) d p q = p
 
   in-derivative : (xs : List Float) (o : Float) (i : ℕ) → InDerivative P (derivative J xs o i)
@@ -104,25 +99,25 @@ module _ (J : Job) (P : Refusal → Type 0) (not-Finite : P NonFinite) (no-gradi
   in-gradient xs o = fold-keeps _ (InSlopes P) _ (slopes []) tt (λ i g _ p. in-with g (derivative J xs o i) p (in-derivative xs o i))
 
   in-judged : (o : Float) (k : ℕ) (e : Evaluated) → InEvaluated P e → InSearch P (judged o k e)
-  in-judged o k (Value v) p = split (λ (b : Bool). InSearch P (cond b (Found k v) Searching)) (lt v o) (λ _. tt) (λ _. tt)
-  in-judged o k Passed p = tt
-  in-judged o k (Broken r) p = p
+  in-judged o k (Ok (Some v)) p = split (λ (b : Bool). InSearch P (cond b (found k v) (Ok None))) (lt v o) (λ _. tt) (λ _. tt)
+  in-judged o k (Ok None) p = tt
+  in-judged o k (Err r) p = p
 
   in-onward : (xs g : List Float) (o : Float) (k : ℕ) (t : Search) → InSearch P t → InSearch P (onward J xs g o k t)
-  in-onward xs g o k Searching p = in-judged o k (evaluate J (trial J xs g k)) (in-evaluate (trial J xs g k))
-  in-onward xs g o k (Found j v) p = p
-  in-onward xs g o k (Lost r) p = p
+  in-onward xs g o k (Ok None) p = in-judged o k (evaluate J (trial J xs g k)) (in-evaluate (trial J xs g k))
+  in-onward xs g o k (Ok (Some a)) p = p
+  in-onward xs g o k (Err r) p = p
 
   in-search : (xs g : List Float) (o : Float) (n : ℕ) → InSearch P (search_to J xs g o n)
   unfolding search_to
-  in-search xs g o n = fold-keeps _ (InSearch P) n Searching tt (λ k t _ p. in-onward xs g o k t p)
+  in-search xs g o n = fold-keeps _ (InSearch P) n (Ok None) tt (λ k t _ p. in-onward xs g o k t p)
 
   in-searched : (p : Point) (g : List Float) (t : Search) → InSearch P t → InState P (searched J p g t)
-  in-searched p g Searching h = tt
-  in-searched p g (Found k v) h =
-      let q : Point = record { coordinates = trial J p.coordinates g k; objective = v; steps = p.steps + 1; evaluations = p.evaluations + (2 * size J + (k + 1)) } in
-      split (λ (b : Bool). InState P (cond b (stopped ObjectiveTolerance q) (going q))) (small J p.objective v) (λ _. tt) (λ _. tt)
-  in-searched p g (Lost r) h = h
+  in-searched p g (Ok None) h = tt
+  in-searched p g (Ok (Some a)) h =
+      let q : Point = record { coordinates = trial J p.coordinates g a.trial; objective = a.objective; steps = p.steps + 1; evaluations = p.evaluations + (2 * size J + (a.trial + 1)) } in
+      split (λ (b : Bool). InState P (cond b (stopped ObjectiveTolerance q) (going q))) (small J p.objective a.objective) (λ _. tt) (λ _. tt)
+  in-searched p g (Err r) h = h
 
   in_step : (p : Point) (G : Slopes) → InSlopes P G → InState P (step_by J p G)
   in_step p (slopes g) h =
@@ -139,9 +134,9 @@ module _ (J : Job) (P : Refusal → Type 0) (not-Finite : P NonFinite) (no-gradi
   in-next (refused r) h = h
 
   in-begin : (L : Likelihood) → InLikelihood P L → InState P (begin_by J L)
-  in-begin (likelihood.Fit d) h = tt
-  in-begin likelihood.Failed h = failing
-  in-begin (likelihood.Refused r) h = h
+  in-begin (Ok d) h = tt
+  in-begin (Err Probabilities) h = failing
+  in-begin (Err (Refused r)) h = h
 
   in_after : (n : ℕ) → InState P (after J n)
   unfolding after
@@ -161,9 +156,9 @@ module _ (J : Job) (P : Refusal → Type 0) (not-Finite : P NonFinite) (no-gradi
   in-finished d (refused x) h = h
 
   in-fit : (L : Likelihood) → InLikelihood P L → InOutcome P (fit_by J L)
-  in-fit (likelihood.Fit d) h = in-finished d (after J (iterations J)) (in_after (iterations J))
-  in-fit likelihood.Failed h = failing
-  in-fit (likelihood.Refused r) h = h
+  in-fit (Ok d) h = in-finished d (after J (iterations J)) (in_after (iterations J))
+  in-fit (Err Probabilities) h = failing
+  in-fit (Err (Refused r)) h = h
 
   pub refusals-in : InOutcome P (fit_of J)
   unfolding fit_of

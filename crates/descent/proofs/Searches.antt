@@ -1,4 +1,5 @@
 -- What the first n trials of a search have shown, in words of the trials' models. Assumes nothing.
+use Rattle.std.proofs.Common.{Err, None, Ok, Some}
 use Prim.Native.Nat.{ℕ, zero, suc, ◌<◌}
 use mathlib.Core.Path.{◌≡◌, ap, ◌∙◌}
 use mathlib.Core.Bool.{Bool, true, not, cond}
@@ -7,11 +8,7 @@ use native.Mathlib.Omega.{arith}
 use lib.Ieee.{Float, lt}
 use Rattle.lists.specs.Fold.{fold}
 use Rattle.refusal.specs.declared.Refusal.{Refusal}
-use Rattle.descent.specs.declared.Evaluated.{Evaluated}
-use Rattle.descent.specs.declared.Evaluated.TheVariants.{Value, Passed, Broken}
-use Rattle.descent.specs.declared.Search.{Search}
-use Rattle.descent.specs.declared.Search.TheVariants.{Searching, Found, Lost}
-use Rattle.descent.specs.Fit.{Job, model_of, evaluate, trial, judged, onward, search_to}
+use Rattle.descent.specs.Fit.{found, Evaluated, Search, Job, model_of, evaluate, trial, judged, onward, search_to}
 use Rattle.descent.specs.Claim.{Sound, refused_at, evaluation}
 use Rattle.descent.proofs.Laws.{split, one_more}
 use Rattle.descent.proofs.Models.{same-evaluation, read-trial}
@@ -27,17 +24,17 @@ module _ (J : Job) (xs g : List Float) (o : Float) where
 
   -- no trial of the first n stands; trial k is the first that does; or one has refused the whole fit
   pub data Looked (n : ℕ) : Search → Type 0 where
-    none : ((j : ℕ) → j < n → Refuses j) → Looked n Searching
-    one : (k : ℕ) (v : Float) → k < n → evaluation_of k ≡ Value v → lt v o ≡ true → ((j : ℕ) → j < k → Refuses j) → Looked n (Found k v)
-    lost : (r : Refusal) → Looked n (Lost r)
+    none : ((j : ℕ) → j < n → Refuses j) → Looked n (Ok None)
+    one : (k : ℕ) (v : Float) → k < n → evaluation_of k ≡ Ok (Some v) → lt v o ≡ true → ((j : ℕ) → j < k → Refuses j) → Looked n (found k v)
+    lost : (r : Refusal) → Looked n (Err r)
 
   judge : (n : ℕ) (e : Evaluated) → evaluation_of n ≡ e → ((j : ℕ) → j < n → Refuses j) → Looked (suc n) (judged o n e)
-  judge n (Value v) a h =
-      split (λ (b : Bool). Looked (suc n) (cond b (Found n v) Searching)) (lt v o)
+  judge n (Ok (Some v)) a h =
+      split (λ (b : Bool). Looked (suc n) (cond b (found n v) (Ok None))) (lt v o)
       (λ t. one n v (omega arith) a t h)
       (λ f. none (one_more n h (ap (refused_at o) a ∙ ap not f)))
-  judge n Passed a h = none (one_more n h (ap (refused_at o) a))
-  judge n (Broken r) a h = lost r
+  judge n (Ok None) a h = none (one_more n h (ap (refused_at o) a))
+  judge n (Err r) a h = lost r
 
   module _ (s : Sound J) where
     look : (n : ℕ) {t : Search} → Looked n t → Looked (suc n) (onward J xs g o n t)

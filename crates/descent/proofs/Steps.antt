@@ -1,4 +1,5 @@
 -- One step of a fit, in words of its models. Assumes nothing.
+use Rattle.std.proofs.Common.{Ok, Some}
 use Prim.Native.Nat.{ℕ, suc, ◌+◌, ◌*◌, ◌<◌}
 use mathlib.Core.Path.{◌≡◌, refl, sym, ap, ap₂, ◌∙◌}
 use mathlib.Core.Bool.{Bool, true, false, not, cond}
@@ -6,11 +7,8 @@ use mathlib.Core.List.{List}
 use native.Mathlib.Numerals.{add-one}
 use lib.Ieee.{Float, lt}
 use Rattle.refusal.specs.declared.Refusal.{Refusal}
-use Rattle.descent.specs.declared.Evaluated.TheVariants.{Value}
-use Rattle.descent.specs.declared.Search.{Search}
+use Rattle.descent.specs.Fit.{Search, Job, Point, State, going, stopped, refused, Slopes, slopes, unusable, size, backtracks, coordinates_of, model_of, gradient, flat, trial, search_to, small, counted, searched, step_by, step}
 use Rattle.descent.specs.declared.GstTermination.TheVariants.{GradientTolerance, ObjectiveTolerance, LineSearchStalled}
-use Rattle.descent.specs.Fit.{Job, Point, State, going, stopped, refused, Slopes, slopes, unusable}
-use Rattle.descent.specs.Fit.{size, backtracks, coordinates_of, model_of, gradient, flat, trial, search_to, small, counted, searched, step_by, step}
 use Rattle.descent.specs.Claim.{Sound, Accepts, evaluation, objective_in, gradient_at, flat_by, slopes_in, trial_at, refused_trial, refused_at}
 use Rattle.descent.proofs.Laws.{split}
 use Rattle.descent.proofs.Models.{read-trial}
@@ -27,7 +25,7 @@ module _ (J : Job) where
   -- a point's numbers are its model's, and its objective is that worked out afresh
   pub record Good (p : Point) : Type 0 where
     pub read : coordinates_of J (model_at p) ≡ p.coordinates
-    pub value : evaluation J (model_at p) ≡ Value p.objective
+    pub value : evaluation J (model_at p) ≡ Ok (Some p.objective)
 
   -- an accepted step
   pub record Moves (p q : Point) : Type 0 where

@@ -1,16 +1,13 @@
 -- The buyer's statement: what every sheet of a fit says, in words of models alone. A model is its numbers. Two equal numbers have the same bits: a NaN, which
 -- has several patterns, is in no model.
-use Rattle.std.specs.Prelude.{ℕ, zero, suc, ◌+◌, ◌*◌, ◌≤◌, ◌<◌, ◌≡◌, Bool, true, false, not, ◌&&◌, ◌||◌, cond, List, [], ◌∷◌, eqb, length, get_or, Float}
+use Rattle.std.specs.Prelude.{Err, None, Ok, Some, ℕ, zero, suc, ◌+◌, ◌*◌, ◌≤◌, ◌<◌, ◌≡◌, Bool, true, false, not, ◌&&◌, ◌||◌, cond, List, [], ◌∷◌, eqb, length, get_or, Float}
 use Rattle.std.specs.Float.{nan}
 use Rattle.std.specs.Float.Ieee.{lt}
 use Rattle.numbers.specs.Slice.{at, all_finite}
 use Rattle.refusal.specs.declared.Refusal.TheVariants.{NonFinite}
-use Rattle.likelihood.specs.declared.Likelihood.TheVariants.{Fit}
-use Rattle.descent.specs.declared.Evaluated.{Evaluated}
-use Rattle.descent.specs.declared.Evaluated.TheVariants.{Value, Passed, Broken}
+use Rattle.descent.specs.Fit.{Evaluated, Job, Fitted, Slopes, slopes, unusable, size, iterations, backtracks, Outcome, fitted, unfitted, coordinates_of, model_of, scored, gradient, norm, flat, small, trial}
 use Rattle.descent.specs.declared.GstTermination.{GstTermination}
 use Rattle.descent.specs.declared.GstTermination.TheVariants.{GradientTolerance, ObjectiveTolerance, MaximumIterations, LineSearchStalled}
-use Rattle.descent.specs.Fit.{Job, Fitted, Slopes, slopes, unusable, size, iterations, backtracks, Outcome, fitted, unfitted, coordinates_of, model_of, scored, gradient, norm, flat, small, trial}
 
 -- p is among the places ps
 abbrev pub listed : ℕ → List ℕ → Bool
@@ -30,9 +27,9 @@ pub record Sound (J : Job) : Type 0 where
   pub finite : all_finite (coordinates_of J J.model) ≡ true
 
 abbrev pub objective_in : Evaluated → Float
-objective_in (Value o) = o
-objective_in Passed = nan
-objective_in (Broken r) = nan
+objective_in (Ok (Some o)) = o
+objective_in (Ok None) = nan
+objective_in (Err r) = nan
 
 abbrev pub slopes_in : Slopes → List Float
 slopes_in (slopes g) = g
@@ -40,14 +37,14 @@ slopes_in (unusable r) = []
 
 -- passed over, or not strictly below o
 abbrev pub refused_at : Float → Evaluated → Bool
-refused_at o (Value v) = not (lt v o)
-refused_at o Passed = true
-refused_at o (Broken r) = false
+refused_at o (Ok (Some v)) = not (lt v o)
+refused_at o (Ok None) = true
+refused_at o (Err r) = false
 
 module _ (J : Job) where
   -- a model's evaluation, worked out afresh from its own numbers
   unfoldable pub evaluation : List Float → Evaluated
-  evaluation m = cond (all_finite (coordinates_of J m)) (scored J (J.likelihood m) (coordinates_of J m)) (Broken NonFinite)
+  evaluation m = cond (all_finite (coordinates_of J m)) (scored J (J.likelihood m) (coordinates_of J m)) (Err NonFinite)
 
   abbrev pub objective_at : List Float → Float
   objective_at m = objective_in (evaluation m)
@@ -110,9 +107,9 @@ pub record Claim (J : Job) (s : Fitted) (points : List (List Float)) : Type 0 wh
   pub keeps : (p : ℕ) → listed p J.places ≡ false → at s.model p ≡ at J.model p
   pub as_long : length s.model ≡ length J.model
   -- the sheet's numbers, worked out afresh
-  pub initially : J.likelihood J.model ≡ Fit s.initial
-  pub finally : J.likelihood s.model ≡ Fit s.final
-  pub afresh : evaluation J s.model ≡ Value s.objective
+  pub initially : J.likelihood J.model ≡ Ok s.initial
+  pub finally : J.likelihood s.model ≡ Ok s.final
+  pub afresh : evaluation J s.model ≡ Ok (Some s.objective)
   pub steepness : norm_by J (gradient_at J s.model) ≡ s.norm
   -- the stopping reason is true at point S, none that the Rust prefers is true there, and none at all before
   pub borne_out : BornOut J (λ k. get_or points k []) s.steps s.stop

@@ -1,5 +1,5 @@
 -- The fit of a gate set (the Rust's `reconstruct_gate_set`): gradient descent with finite differences and halved trial steps, on the coordinates that a card names.
-use Rattle.std.specs.Prelude.{ℕ, ◌+◌, ◌*◌, Bool, cond, List, [], ◌∷◌, ◌++◌, map, length, set, Float}
+use Rattle.std.specs.Prelude.{Option, Some, None, Result, Ok, Err, ℕ, ◌+◌, ◌*◌, Bool, cond, List, [], ◌∷◌, ◌++◌, map, length, set, Float}
 use Rattle.std.specs.Float.Ieee.{neg, lt, le}
 use Rattle.lists.specs.Build.{build}
 use Rattle.lists.specs.Fold.{fold}
@@ -8,19 +8,30 @@ use Rattle.numbers.specs.Slice.{at, all_finite}
 use Rattle.root.specs.Root.{sqrt}
 use Rattle.matrix.specs.Product.{sum_of}
 use Rattle.refusal.specs.declared.Refusal.{Refusal}
-use Rattle.refusal.specs.declared.Refusal.TheVariants.{NonFinite, InvalidProbabilities, InvalidGstOptimization}
+use Rattle.refusal.specs.declared.Reason.TheVariants.{GradientNotFinite}
+use Rattle.refusal.specs.declared.Refusal.TheVariants.{NonFinite, InvalidGstOptimization}
 use Rattle.likelihood.specs.declared.Diagnostics.{Diagnostics}
-use Rattle.likelihood.specs.declared.Likelihood.{Likelihood}
-use Rattle.likelihood.specs.declared.Likelihood.TheVariants as likelihood
+use Rattle.likelihood.specs.declared.Unfit.TheVariants.{Probabilities, Refused}
+use Rattle.likelihood.specs.Multinomial.{Likelihood, refusal_of}
+use Rattle.descent.specs.declared.Accepted.{Accepted}
 use Rattle.descent.specs.declared.GstOptimizerConfig.{GstOptimizerConfig}
 use Rattle.descent.specs.declared.GstTermination.{GstTermination}
 use Rattle.descent.specs.declared.GstTermination.TheVariants.{GradientTolerance, ObjectiveTolerance, MaximumIterations, LineSearchStalled}
-use Rattle.descent.specs.declared.Evaluated.{Evaluated}
-use Rattle.descent.specs.declared.Evaluated.TheVariants.{Value, Passed, Broken}
-use Rattle.descent.specs.declared.Derivative.{Derivative}
-use Rattle.descent.specs.declared.Derivative.TheVariants.{Slope, Unusable}
-use Rattle.descent.specs.declared.Search.{Search}
-use Rattle.descent.specs.declared.Search.TheVariants.{Searching, Found, Lost}
+
+-- coordinates evaluated: their objective, or none where the probabilities fail, so that they are passed over; or the refusal of the whole fit
+abbrev pub Evaluated : Type 0
+Evaluated = Result (Option Float) Refusal
+
+-- a derivative, or why the fit is refused
+abbrev pub Derivative : Type 0
+Derivative = Result Float Refusal
+
+-- a search among trials: the accepted one, if there is one so far; or the refusal of the whole fit
+abbrev pub Search : Type 0
+Search = Result (Option Accepted) Refusal
+
+abbrev pub found : ℕ → Float → Search
+found k v = Ok (Some (record { trial = k; objective = v }))
 
 -- What a card gives to its fit: the numbers of its model, the place among them of each coordinate's entry, the controls, and the likelihood of any model's numbers by
 -- the card's records and probability tolerance.
@@ -71,29 +82,29 @@ pub data Outcome : Type 0 where
 
 -- a derivative that is not finite refuses the fit
 unfoldable pub usable : Float → Derivative
-usable v = cond (finite v) (Slope v) (Unusable (InvalidGstOptimization 5))
+usable v = cond (finite v) (Ok v) (Err (InvalidGstOptimization GradientNotFinite))
 
 -- the derivative from the probes on the right and on the left, h away, where the objective is o: by both, by the one that is admitted, or 0
 abbrev pub difference_of : Float → Float → Evaluated → Evaluated → Derivative
-difference_of o h (Value r) (Value l) = usable ((r -ᶠ l) /ᶠ (two_f *ᶠ h))
-difference_of o h (Value r) Passed = usable ((r -ᶠ o) /ᶠ h)
-difference_of o h (Value r) (Broken x) = Unusable x
-difference_of o h Passed (Value l) = usable ((o -ᶠ l) /ᶠ h)
-difference_of o h Passed Passed = usable zero_f
-difference_of o h Passed (Broken x) = Unusable x
-difference_of o h (Broken x) left = Unusable x
+difference_of o h (Ok (Some r)) (Ok (Some l)) = usable ((r -ᶠ l) /ᶠ (two_f *ᶠ h))
+difference_of o h (Ok (Some r)) (Ok None) = usable ((r -ᶠ o) /ᶠ h)
+difference_of o h (Ok (Some r)) (Err x) = Err x
+difference_of o h (Ok None) (Ok (Some l)) = usable ((o -ᶠ l) /ᶠ h)
+difference_of o h (Ok None) (Ok None) = usable zero_f
+difference_of o h (Ok None) (Err x) = Err x
+difference_of o h (Err x) left = Err x
 
 -- one derivative more
 abbrev pub with_slope : Slopes → Derivative → Slopes
-with_slope (slopes g) (Slope v) = slopes (g ++ (v ∷ []))
-with_slope (slopes g) (Unusable r) = unusable r
+with_slope (slopes g) (Ok v) = slopes (g ++ (v ∷ []))
+with_slope (slopes g) (Err r) = unusable r
 with_slope (unusable r) d = unusable r
 
 -- trial k, evaluated, where the objective is o: accepted only strictly below it
 abbrev pub judged : Float → ℕ → Evaluated → Search
-judged o k (Value v) = cond (lt v o) (Found k v) Searching
-judged o k Passed = Searching
-judged o k (Broken r) = Lost r
+judged o k (Ok (Some v)) = cond (lt v o) (found k v) (Ok None)
+judged o k (Ok None) = Ok None
+judged o k (Err r) = Err r
 
 -- at the step limit a gradient that passes the test is the reason
 abbrev pub reason_at : GstTermination → Bool → GstTermination
@@ -104,9 +115,8 @@ reason_at LineSearchStalled b = LineSearchStalled
 
 -- the diagnostics of a likelihood that has some
 abbrev pub diagnostics_in : Likelihood → Diagnostics
-diagnostics_in (likelihood.Fit d) = d
-diagnostics_in likelihood.Failed = record { log_likelihood = zero_f; deviance = zero_f }
-diagnostics_in (likelihood.Refused r) = record { log_likelihood = zero_f; deviance = zero_f }
+diagnostics_in (Ok d) = d
+diagnostics_in (Err u) = record { log_likelihood = zero_f; deviance = zero_f }
 
 module _ (J : Job) where
   -- P, I and B
@@ -138,12 +148,12 @@ module _ (J : Job) where
   objective_of likely xs = neg likely +ᶠ half_f *ᶠ J.config.anchor_strength *ᶠ distance xs
 
   abbrev pub scored : Likelihood → List Float → Evaluated
-  scored (likelihood.Fit d) xs = Value (objective_of d.log_likelihood xs)
-  scored likelihood.Failed xs = Passed
-  scored (likelihood.Refused r) xs = Broken r
+  scored (Ok d) xs = Ok (Some (objective_of d.log_likelihood xs))
+  scored (Err Probabilities) xs = Ok None
+  scored (Err (Refused r)) xs = Err r
 
   unfoldable pub evaluate : List Float → Evaluated
-  evaluate xs = cond (all_finite xs) (scored (J.likelihood (model_of xs)) xs) (Broken NonFinite)
+  evaluate xs = cond (all_finite xs) (scored (J.likelihood (model_of xs)) xs) (Err NonFinite)
 
   -- ---- the gradient at xs, where the objective is o
 
@@ -175,13 +185,13 @@ module _ (J : Job) where
   trial xs g k = build size (λ i. at xs i -ᶠ step_length k *ᶠ at g i)
 
   abbrev pub onward : List Float → List Float → Float → ℕ → Search → Search
-  onward xs g o k Searching = judged o k (evaluate (trial xs g k))
-  onward xs g o k (Found j v) = Found j v
-  onward xs g o k (Lost r) = Lost r
+  onward xs g o k (Ok None) = judged o k (evaluate (trial xs g k))
+  onward xs g o k (Ok (Some a)) = Ok (Some a)
+  onward xs g o k (Err r) = Err r
 
   -- the first n trials
   unfoldable pub search_to : List Float → List Float → Float → ℕ → Search
-  search_to xs g o n = fold n (onward xs g o) Searching
+  search_to xs g o n = fold n (onward xs g o) (Ok None)
 
   -- ---- a step: one gradient and its search. It does not look at the iteration limit
 
@@ -195,11 +205,11 @@ module _ (J : Job) where
 
   -- where the search from p along g ends
   abbrev pub searched : Point → List Float → Search → State
-  searched p g Searching = stopped LineSearchStalled (counted (2 * size + backtracks) p)
-  searched p g (Found k v) =
-      let q : Point = record { coordinates = trial p.coordinates g k; objective = v; steps = p.steps + 1; evaluations = p.evaluations + (2 * size + (k + 1)) } in
-      cond (small p.objective v) (stopped ObjectiveTolerance q) (going q)
-  searched p g (Lost r) = refused r
+  searched p g (Ok None) = stopped LineSearchStalled (counted (2 * size + backtracks) p)
+  searched p g (Ok (Some a)) =
+      let q : Point = record { coordinates = trial p.coordinates g a.trial; objective = a.objective; steps = p.steps + 1; evaluations = p.evaluations + (2 * size + (a.trial + 1)) } in
+      cond (small p.objective a.objective) (stopped ObjectiveTolerance q) (going q)
+  searched p g (Err r) = refused r
 
   abbrev pub step_by : Point → Slopes → State
   step_by p (slopes g) = cond (flat g) (stopped GradientTolerance (counted (2 * size) p)) (searched p g (search_to p.coordinates g p.objective backtracks))
@@ -217,10 +227,9 @@ module _ (J : Job) where
 
   -- the card's own model
   abbrev pub begin_by : Likelihood → State
-  begin_by (likelihood.Fit d) =
+  begin_by (Ok d) =
       going (record { coordinates = coordinates_of J.model; objective = objective_of d.log_likelihood (coordinates_of J.model); steps = 0; evaluations = 1 })
-  begin_by likelihood.Failed = refused InvalidProbabilities
-  begin_by (likelihood.Refused r) = refused r
+  begin_by (Err u) = refused (refusal_of u)
 
   -- after n steps
   unfoldable pub after : ℕ → State
@@ -250,9 +259,8 @@ module _ (J : Job) where
   finished d (refused x) = unfitted x
 
   abbrev pub fit_by : Likelihood → Outcome
-  fit_by (likelihood.Fit d) = finished d (after iterations)
-  fit_by likelihood.Failed = unfitted InvalidProbabilities
-  fit_by (likelihood.Refused r) = unfitted r
+  fit_by (Ok d) = finished d (after iterations)
+  fit_by (Err u) = unfitted (refusal_of u)
 
   unfoldable pub fit_of : Outcome
   fit_of = fit_by (J.likelihood J.model)

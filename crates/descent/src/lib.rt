@@ -2,8 +2,6 @@
 // proofs/Points.antt: none of it depends on how the fit is computed, which is crate `fit`.
 #![tactic(auto)]
 
-use refusal::Refusal;
-
 // The Rust's `GstOptimizerConfig`.
 #[derive(Clone, Copy)]
 pub struct GstOptimizerConfig {
@@ -18,7 +16,7 @@ pub struct GstOptimizerConfig {
 }
 
 // The Rust's `GstTermination`.
-#[derive(Clone, Copy)]
+#[derive(Clone, Copy, Debug, PartialEq, Eq)]
 pub enum GstTermination {
     GradientTolerance,
     ObjectiveTolerance,
@@ -26,25 +24,9 @@ pub enum GstTermination {
     LineSearchStalled,
 }
 
-// Coordinates evaluated: their objective; passed over, since the probabilities fail; or the whole fit refused.
+// What a search ends at: the number of the accepted trial, and its objective.
 #[derive(Clone, Copy)]
-pub enum Evaluated {
-    Value(f64),
-    Passed,
-    Broken(Refusal),
-}
-
-// A derivative, or why the fit is refused.
-#[derive(Clone, Copy)]
-pub enum Derivative {
-    Slope(f64),
-    Unusable(Refusal),
-}
-
-// A search among trials: none accepted so far; the number of the accepted one and its objective; or the whole fit refused.
-#[derive(Clone, Copy)]
-pub enum Search {
-    Searching,
-    Found(u64, f64),
-    Lost(Refusal),
+pub struct Accepted {
+    pub trial: u64,
+    pub objective: f64,
 }

@@ -1,9 +1,12 @@
 -- 4^n probes of 4^n numbers: at least one, and at most 4,096 numbers in all. Assumes nothing.
 use Prim.Native.Nat.{ℕ, ◌*◌, ◌^◌, ◌≤◌, ◌<◌}
-use mathlib.Core.Path.{◌≡◌}
+use mathlib.Core.Path.{◌≡◌, ap, ◌∙◌}
+use mathlib.Core.List.{List, ◌++◌}
 use native.Mathlib.Nat.{one-le-pow, zero-lt-suc, mul-le-mul}
 use native.Mathlib.Omega.{arith}
-use lib.ListN.{length}
+use lib.ListN.{length, take, drop}
+use lib.Seq.{length-take-le}
+use Rattle.lists.specs.Build.{build}
 use Rattle.lists.proofs.Filling.{length-build}
 use Rattle.designs.specs.Probes.{probes_of}
 use Rattle.designs.specs.Settings.{setting_of}
@@ -23,3 +26,7 @@ length-probes n = length-build (4 ^ n * 4 ^ n) _
 pub length-setting : (n index : ℕ) → length (setting_of n index) ≡ n
 unfolding setting_of
 length-setting n index = length-build n _
+
+-- a list whose front was built
+pub front-built : {A : Type 0} (f : ℕ → A) (n : ℕ) (l out : List A) → n ≤ length out → l ≡ build (length (take n out)) f → l ++ drop n out ≡ build n f ++ drop n out
+front-built f n l out h e = ap (λ l. l ++ drop n out) (e ∙ ap (λ (k : ℕ). build k f) (length-take-le n out h))

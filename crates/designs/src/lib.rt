@@ -6,32 +6,32 @@ ghost use Rattle.designs.specs.Digit.{digit_of};
 ghost use Rattle.designs.specs.Probes.{local, expectation, probes_of};
 ghost use Rattle.designs.specs.Settings.{setting_of};
 
-use sizes::{four_to, three_to};
+use sizes::four_to;
 
-// The qubit's digit in base 4. A division by a power of 2 is a shift.
-fn quarter(n: usize, code: usize, qubit: usize) -> usize
-    requires { (n ≤ 3) × (qubit < n) }
-    ensures { (result ≡ digit_of 4 n code qubit) × (result < 4) }
+// The qubit's digit. Each division is by a constant, which in base 4 is a shift.
+fn digit<const BASE: usize>(n: usize, code: usize, qubit: usize) -> usize
+    requires { (n ≤ 3) × (qubit < n) × (0 < BASE) × (BASE ≤ 4) }
+    ensures { (result ≡ digit_of BASE n code qubit) × (result < BASE) }
 {
-    code / four_to(n - 1 - qubit) % 4
+    match n - 1 - qubit {
+        0 => code % BASE,
+        1 => code / BASE % BASE,
+        _ => code / (BASE * BASE) % BASE,
+    }
 }
 
-// The qubit's digit in base 3.
-fn third(n: usize, code: usize, qubit: usize) -> usize
-    requires { (n ≤ 3) × (qubit < n) }
-    ensures { (result ≡ digit_of 3 n code qubit) × (result < 3) }
-{
-    code / three_to(n - 1 - qubit) % 3
-}
-
+// A row for each state.
 fn local(state: usize, axis: usize) -> f64
     requires { (state < 4) × (axis < 4) }
     ensures { result ≡ local state axis }
 {
     let table = [
-        1.0, 0.0, 0.0, 1.0, 1.0, 0.0, 0.0, -1.0, 1.0, 1.0, 0.0, 0.0, 1.0, 0.0, 1.0, 0.0,
+        [1.0, 0.0, 0.0, 1.0],
+        [1.0, 0.0, 0.0, -1.0],
+        [1.0, 1.0, 0.0, 0.0],
+        [1.0, 0.0, 1.0, 0.0],
     ];
-    table[state * 4 + axis]
+    table[state][axis]
 }
 
 fn expectation(n: usize, probe: usize, string: usize) -> f64
@@ -40,7 +40,7 @@ fn expectation(n: usize, probe: usize, string: usize) -> f64
 {
     let mut x = 1.0;
     for qubit in 0..n {
-        x = x * local(quarter(n, probe, qubit), quarter(n, string, qubit));
+        x *= local(digit::<4>(n, probe, qubit), digit::<4>(n, string, qubit));
     }
     x
 }
@@ -51,9 +51,9 @@ pub fn probes(n: usize, out: &mut [f64])
     ensures { out.new ≡ probes_of n ++ drop (4 ^ n * 4 ^ n) out.old }
 {
     let count = four_to(n);
-    let all = count * count;
-    for k in 0..all {
-        out[k] = expectation(n, k / count, k % count);
+    let front = &mut out[..count * count];
+    for (k, x) in front.iter_mut().enumerate() {
+        *x = expectation(n, k / count, k % count);
     }
 }
 
@@ -62,7 +62,8 @@ pub fn setting(n: usize, index: usize, out: &mut [u64])
     requires { (n ≤ 3) × (index < 3 ^ n) × (n ≤ length out.old) }
     ensures { out.new ≡ setting_of n index ++ drop n out.old }
 {
-    for qubit in 0..n {
-        out[qubit] = third(n, index, qubit) as u64 + 1;
+    let front = &mut out[..n];
+    for (qubit, axis) in front.iter_mut().enumerate() {
+        *axis = digit::<3>(n, index, qubit) as u64 + 1;
     }
 }

@@ -1,6 +1,6 @@
 pub mod Loading
 pub mod Models
-pub mod Records
+pub mod Steps
 pub mod Rooms
 pub mod Tables
 pub mod Turns

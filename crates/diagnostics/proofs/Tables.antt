@@ -14,7 +14,7 @@ use Rattle.logarithm.proofs.Lent.{by-tables}
 use Rattle.card_layout.specs.declared.Header.{Header}
 use Rattle.gate_set.specs.GateSet.{columns_in}
 use Rattle.gate_set.proofs.Columns.{length-columns-in}
-use Rattle.likelihood.specs.declared.Likelihood.{Likelihood}
+use Rattle.likelihood.specs.Multinomial.{Likelihood}
 use Rattle.diagnostics.specs.Diagnostics.{likelihood_by, likelihood_of}
 
 -- the columns at the front of their room

@@ -1,5 +1,6 @@
 -- The likelihood of a card's records under a model (the Rust's `fit_diagnostics_with_tolerance`): record by record, all of one before any of the next.
-use Rattle.std.specs.Prelude.{ℕ, ◌≤◌, ◌≡◌, Bool, true, false, List, length, Float}
+use Rattle.likelihood.specs.declared.Unfit.TheVariants.{Probabilities, Refused}
+use Rattle.std.specs.Prelude.{Err, Ok, ℕ, ◌≤◌, ◌≡◌, Bool, true, false, List, length, Float}
 use Rattle.lists.specs.Build.{build}
 use Rattle.lists.specs.Fold.{fold}
 use Rattle.numbers.specs.Number.{zero_f}
@@ -10,9 +11,7 @@ use Rattle.card_parts.specs.Parts.{sequence_of, count_in}
 use Rattle.model_words.specs.Words.{model_numbers}
 use Rattle.gate_set.specs.GateSet.{present_of, probabilities_of, columns_in}
 use Rattle.likelihood.specs.declared.Diagnostics.{Diagnostics}
-use Rattle.likelihood.specs.declared.Likelihood.{Likelihood}
-use Rattle.likelihood.specs.declared.Likelihood.TheVariants.{Fit, Failed, Refused}
-use Rattle.likelihood.specs.Multinomial.{onward, with_record}
+use Rattle.likelihood.specs.Multinomial.{Likelihood, onward, with_record}
 
 -- record r's counts, one for each effect
 unfoldable pub counts_of : List ℕ → Header → ℕ → List ℕ
@@ -26,11 +25,11 @@ module _ (log : Float → Float) (deviance : Bool) (tolerance : Float) (s : List
   -- record r: a gate that is absent, then the probabilities and counts
   unfoldable pub record_onward : ℕ → Diagnostics → Likelihood
   record_onward r d =
-      after (present_of h.gates (sequence_of s h r)) Refused
+      after (present_of h.gates (sequence_of s h r)) (λ r. Err (Refused r))
       (with_record log deviance tolerance (counts_of s h r) (probabilities_of h.dimension h.effects m (sequence_of s h r)) d)
 
   unfoldable pub likelihood_by : Likelihood
-  likelihood_by = fold h.records (λ r. onward (record_onward r)) (Fit no_diagnostics)
+  likelihood_by = fold h.records (λ r. onward (record_onward r)) (Ok no_diagnostics)
 
 -- with document 01's logarithm
 abbrev pub likelihood_of : Bool → Float → List ℕ → Header → List Float → Likelihood
@@ -44,6 +43,6 @@ Columned h m columns = (model_numbers h ≤ length m) × (columns ≡ columns_in
 
 -- no record changes it any more
 abbrev pub ended : Likelihood → Bool
-ended (Fit d) = false
-ended Failed = true
-ended (Refused r) = true
+ended (Ok d) = false
+ended (Err Probabilities) = true
+ended (Err (Refused r)) = true

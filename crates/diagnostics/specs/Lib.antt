@@ -1,1 +1,2 @@
 pub mod Diagnostics
+pub mod Lent

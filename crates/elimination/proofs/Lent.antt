@@ -13,7 +13,7 @@ use Rattle.lists.specs.Fold.{fold}
 use Rattle.lists.specs.Part.{part, on_part}
 use Rattle.lists.proofs.Choices.{yes, no}
 use Rattle.lists.proofs.Filling.{length-build, set-build}
-use Rattle.lists.proofs.Parts.{part-lent, front-is, row_fits}
+use Rattle.lists.proofs.Parts.{part-lent, part-back, front-is, row_fits}
 use Rattle.numbers.specs.Number.{one_f, ◌+ᶠ◌, ◌/ᶠ◌}
 use Rattle.numbers.specs.Slice.{at}
 use Rattle.elimination.specs.Rows.{on_row}
@@ -35,6 +35,11 @@ divided-back n m r l h e =
 -- the numbers of row p that count in step k lie within m
 pub counted-fits : (n k p m : ℕ) → k < n → p < n → n * (2 * n + 2) ≤ m → p * (2 * n + 2) + k + (n + 2) ≤ m
 counted-fits n k p m h l f = let e = row_fits p n (2 * n + 2) m l f in omega arith
+
+-- row i was lent by its places, and came back put through g
+pub row-put : (i s e w : ℕ) (g : List Float → List Float) (l ys : List Float) → (s ≡ i * w) × (e ≡ i * w + w) → ys ≡ g (take (e - s) (drop s l))
+    → take s l ++ (ys ++ drop (e - s) (drop s l)) ≡ on_row w i g l
+row-put i s e w g l ys (h, k) y = part-back s e w g l ys (omega arith) y ∙ ap (λ (s : ℕ). on_part s w g l) h
 
 -- q is the pivot's row, divided, at the front of z; l₁ the rows with row k in its place
 pub cleared-back : (n k p e : ℕ) (l z q l₁ l₂ : List Float) → e ≡ p * (2 * n + 2) + k + (n + 2)

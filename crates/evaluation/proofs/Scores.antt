@@ -1,5 +1,6 @@
 -- No score depends on the deviance. Assumes nothing.
-use mathlib.Core.Path.{◌≡◌, refl, ap, ◌∙◌}
+use Rattle.std.proofs.Common.{Err, Ok, Some}
+use mathlib.Core.Path.{◌≡◌, ap, ◌∙◌}
 use mathlib.Core.Bool.{true, false}
 use mathlib.Core.List.{List}
 use Prim.Native.Nat.{ℕ}
@@ -9,28 +10,20 @@ use Rattle.numbers.specs.Slice.{all_finite}
 use Rattle.refusal.specs.declared.Refusal.TheVariants.{NonFinite}
 use Rattle.logarithm.specs.Steps.{ln}
 use Rattle.card_layout.specs.declared.Header.{Header}
-use Rattle.likelihood.specs.declared.Likelihood.{Likelihood}
-use Rattle.likelihood.specs.declared.Likelihood.TheVariants.{Fit, Failed, Refused}
-use Rattle.likelihood.specs.Multinomial.{Alike}
+use Rattle.likelihood.specs.declared.Unfit.{Unfit}
+use Rattle.likelihood.specs.Multinomial.{Likelihood, Alike}
 use Rattle.diagnostics.specs.Diagnostics.{likelihood_of}
 use Rattle.diagnostics.proofs.Models.{likelihood-alike}
 use Rattle.descent.specs.declared.GstOptimizerConfig.{GstOptimizerConfig}
-use Rattle.descent.specs.declared.Evaluated.{Evaluated}
-use Rattle.descent.specs.declared.Evaluated.TheVariants.{Value, Broken}
-use Rattle.descent.specs.Fit.{Job, model_of, objective_of, scored, evaluate}
+use Rattle.descent.specs.Fit.{Evaluated, Job, model_of, objective_of, scored, evaluate}
 use Rattle.objective.specs.Job.{job_by}
 
 module _ (J : Job) where
   scored-alike : (l k : Likelihood) (xs : List Float) → Alike l k → scored J l xs ≡ scored J k xs
-  scored-alike (Fit d) (Fit e) xs a = ap (λ (t : Float). Value (objective_of J t xs)) a
-  scored-alike (Fit d) Failed xs a = absurd a
-  scored-alike (Fit d) (Refused s) xs a = absurd a
-  scored-alike Failed (Fit e) xs a = absurd a
-  scored-alike Failed Failed xs a = refl
-  scored-alike Failed (Refused s) xs a = absurd a
-  scored-alike (Refused r) (Fit e) xs a = absurd a
-  scored-alike (Refused r) Failed xs a = absurd a
-  scored-alike (Refused r) (Refused s) xs a = ap Broken a
+  scored-alike (Ok d) (Ok e) xs a = ap (λ (t : Float). Ok (Some (objective_of J t xs))) a
+  scored-alike (Ok d) (Err u) xs a = absurd a
+  scored-alike (Err u) (Ok e) xs a = absurd a
+  scored-alike (Err u) (Err v) xs a = ap (λ (u : Unfit). scored J (Err u) xs) a
 
 -- by a likelihood without the deviance of the model m
 pub evaluate-by : (s : List ℕ) (h : Header) (places : List ℕ) (c : GstOptimizerConfig) (xs m : List Float) (l : Likelihood) (e : Evaluated)
@@ -43,4 +36,4 @@ evaluate-by s h places c xs m l e f a b q =
     ∙ ap (λ (l : Likelihood). scored J l xs) (b ∙ ap (likelihood_of false c.probability_tolerance s h) a)
     ∙ scored-alike J (likelihood_of false c.probability_tolerance s h (model_of J xs)) (J.likelihood (model_of J xs)) xs
     (likelihood-alike ln false true c.probability_tolerance s h (model_of J xs))
-    ∙ yes (Broken NonFinite) f
+    ∙ yes (Err NonFinite) f

@@ -1,4 +1,5 @@
 -- A derivative, the loop over the derivatives, which ends at the first that is unusable, and the norm of a gradient. Assumes nothing.
+use Rattle.std.proofs.Common.{Err, Ok}
 use Prim.Native.Nat.{ℕ, suc, ◌+◌, ◌<◌}
 use mathlib.Core.Path.{◌≡◌, refl, sym, ap, ap₂, ◌∙◌}
 use mathlib.Core.List.{List, []}
@@ -10,14 +11,11 @@ use lib.Ieee.{Float}
 use Rattle.lists.specs.Fold.{fold}
 use Rattle.lists.proofs.Folding.{fold_stays}
 use Rattle.refusal.specs.declared.Refusal.{Refusal}
-use Rattle.descent.specs.declared.Evaluated.{Evaluated}
-use Rattle.descent.specs.declared.Derivative.{Derivative}
-use Rattle.descent.specs.declared.Derivative.TheVariants.{Slope, Unusable}
+use Rattle.descent.specs.Fit.{Evaluated, Derivative, Job, Slopes, slopes, unusable, size, with_slope, evaluate, difference_of, displacement, derivative, norm}
 use Rattle.numbers.specs.Number.{one_f, abs, max, ◌+ᶠ◌, ◌-ᶠ◌, ◌*ᶠ◌}
 use Rattle.numbers.specs.Slice.{at}
 use Rattle.root.specs.Root.{sqrt}
 use Rattle.matrix.specs.Product.{sum_of}
-use Rattle.descent.specs.Fit.{Job, Slopes, slopes, unusable, size, with_slope, evaluate, difference_of, displacement, derivative, norm}
 
 -- derivative i is w i
 module _ (w : ℕ → Derivative) where
@@ -29,12 +27,12 @@ module _ (w : ℕ → Derivative) where
   unfolding fold
   slopes-none g = refl
 
-  pub slopes-more : (i : ℕ) (g : List Float) (d : Derivative) (v : Float) → slopes_to i ≡ slopes (take i g) → d ≡ w i → d ≡ Slope v → i < length g
+  pub slopes-more : (i : ℕ) (g : List Float) (d : Derivative) (v : Float) → slopes_to i ≡ slopes (take i g) → d ≡ w i → d ≡ Ok v → i < length g
       → slopes_to (i + 1) ≡ slopes (take (i + 1) (set g i v))
   unfolding fold
   slopes-more i g d v e p q h = rw (add-one, take-suc-set g i v h) (ap₂ with_slope e (sym p ∙ q))
 
-  pub slopes-stop : (i n : ℕ) (g : List Float) (d : Derivative) (r : Refusal) → slopes_to i ≡ slopes (take i g) → d ≡ w i → d ≡ Unusable r → i < n → unusable r ≡ slopes_to n
+  pub slopes-stop : (i n : ℕ) (g : List Float) (d : Derivative) (r : Refusal) → slopes_to i ≡ slopes (take i g) → d ≡ w i → d ≡ Err r → i < n → unusable r ≡ slopes_to n
   unfolding fold
   slopes-stop i n g d r e p q h =
       sym (fold_stays (λ k g. with_slope g (w k)) (unusable r) (λ k. refl) n (suc i) (slopes []) h (ap₂ with_slope e (sym p ∙ q)))

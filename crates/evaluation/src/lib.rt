@@ -1,281 +1,188 @@
 // Coordinates evaluated, and the gradient of the objective by finite differences.
 #![tactic(auto)]
 
-ghost use Rattle.std.specs.Prelude.{◌≡◌, ◌*◌, ◌<◌, true, map, length, set};
-ghost use Rattle.numbers.specs.Slice.{at, all_finite};
-ghost use Rattle.model_words.specs.Words.{numbers_of};
+ghost use Rattle.std.specs.Prelude.{◌≡◌, ◌≤◌, ◌<◌, true, false, length};
+ghost use Rattle.numbers.specs.Slice.{all_finite};
+ghost use Rattle.diagnostics.specs.Diagnostics.{likelihood_of};
 ghost use Rattle.descent.specs.Fit as spec;
-ghost use Rattle.objective.specs.Job.{job_by, Lent, slopes_of};
+ghost use Rattle.objective.specs.Job.{slopes_of};
+ghost use Rattle.objective.specs.Tasks.{job_in};
 
-use card_layout::Header;
-use descent::{Derivative, Evaluated, GstOptimizerConfig};
-use likelihood::Likelihood;
-use objective::{fill, objective};
-use refusal::{Refusal, Verdict};
+use diagnostics::Both;
+use likelihood::{Diagnostics, Unfit};
+use objective::{Task, Work, fill, objective};
+use refusal::{Reason, Refusal};
 
-fn score(
-    card: &[u8],
-    h: Header,
-    places: &[usize],
-    c: GstOptimizerConfig,
-    anchor: &[f64],
-    l: Likelihood,
-    xs: &[f64],
-) -> Evaluated
-    requires { (anchor.now ≡ map (at (numbers_of card.now h)) places.now) × (length xs.now ≡ length places.now) }
-    ensures { result ≡ spec.scored (job_by card.now h places.now c) l xs.now }
+// What xs gives by the likelihood of its model: none where the probabilities fail.
+fn score(t: &Task<'_>, l: Result<Diagnostics, Unfit>, xs: &[f64]) -> Result<Option<f64>, Refusal>
+    requires { length xs.now ≡ length t.now.places.now }
+    ensures { result ≡ spec.scored (job_in t.now) l xs.now }
 {
     match l {
-        Likelihood::Fit(d) => {
-            Evaluated::Value(objective(card, h, places, c, anchor, d.log_likelihood, xs))
-        }
-        Likelihood::Failed => Evaluated::Passed,
-        Likelihood::Refused(r) => Evaluated::Broken(r),
+        Ok(d) => Ok(Some(objective(t, d.log_likelihood, xs))),
+        Err(Unfit::Probabilities) => Ok(None),
+        Err(Unfit::Refused(r)) => Err(r),
     }
 }
 
-// The coordinates xs evaluated. The deviance, which no objective has, is left out.
-pub fn evaluate(
-    card: &[u8],
-    h: Header,
-    places: &[usize],
-    c: GstOptimizerConfig,
-    anchor: &[f64],
+// The likelihood of the model that has xs, without the deviance, which no objective has.
+fn likelihood_at(
+    t: &Task<'_>,
     xs: &[f64],
     model: &mut [f64],
     columns: &mut [f64],
-) -> Evaluated
-    requires { Lent card.now h places.now anchor.now model.old columns.old × (length xs.now ≡ length places.now) }
-    ensures { (result ≡ spec.evaluate (job_by card.now h places.now c) xs.now) × (length model.new ≡ length model.old) × (length columns.new ≡ length columns.old) }
+) -> Result<Diagnostics, Unfit>
+    requires { (length xs.now ≡ length t.now.places.now) × (2320 ≤ length model.old) × (2048 ≤ length columns.old) }
+    ensures { result ≡ likelihood_of false t.now.config.probability_tolerance t.now.card.now.bytes.now t.now.card.now.header (spec.model_of (job_in t.now) xs.now) }
+{
+    let n = model_words::model_numbers(t.card.header);
+    let m = &mut model[..n];
+    fill(t, xs, m);
+    diagnostics::fit_diagnostics(t.card, m, false, t.config.probability_tolerance, columns)
+}
+
+// The coordinates xs evaluated.
+pub fn evaluate(t: &Task<'_>, xs: &[f64], work: &mut Work) -> Result<Option<f64>, Refusal>
+    requires { length xs.now ≡ length t.now.places.now }
+    ensures { result ≡ spec.evaluate (job_in t.now) xs.now }
 {
     if !numbers::all_finite(xs) {
-        return Evaluated::Broken(Refusal::NonFinite);
+        return Err(Refusal::NonFinite);
     }
-    fill(card, h, places, xs, model);
-    let l = diagnostics::fit_diagnostics(card, h, model, false, c.probability_tolerance, columns);
-    score(card, h, places, c, anchor, l, xs)
+    let Work { model, columns } = work;
+    score(t, likelihood_at(t, xs, model, columns), xs)
 }
 
 // The probes on both sides of a point, evaluated.
 #[derive(Clone, Copy)]
 struct Probes {
-    right: Evaluated,
-    left: Evaluated,
+    right: Result<Option<f64>, Refusal>,
+    left: Result<Option<f64>, Refusal>,
 }
 
-// Two coordinate lists that are finite, evaluated in one pass over the records.
-fn evaluate_finite(
-    card: &[u8],
-    h: Header,
-    places: &[usize],
-    c: GstOptimizerConfig,
-    anchor: &[f64],
+// The same of two models, whose likelihoods are worked out in one pass over the records.
+fn likelihoods_at(
+    t: &Task<'_>,
     xs: &[f64],
     ys: &[f64],
     model: &mut [f64],
     columns: &mut [f64],
     other: &mut [f64],
     others: &mut [f64],
-) -> Probes
-    requires { Lent card.now h places.now anchor.now model.old columns.old × Lent card.now h places.now anchor.now other.old others.old × (length xs.now ≡ length places.now) × (length ys.now ≡ length places.now) × (all_finite xs.now ≡ true) × (all_finite ys.now ≡ true) }
-    ensures { (result.right ≡ spec.evaluate (job_by card.now h places.now c) xs.now) × (result.left ≡ spec.evaluate (job_by card.now h places.now c) ys.now) }
+) -> Both
+    requires { (length xs.now ≡ length t.now.places.now) × (length ys.now ≡ length t.now.places.now) × (2320 ≤ length model.old) × (2048 ≤ length columns.old) × (2320 ≤ length other.old) × (2048 ≤ length others.old) }
+    ensures { (result.first ≡ likelihood_of false t.now.config.probability_tolerance t.now.card.now.bytes.now t.now.card.now.header (spec.model_of (job_in t.now) xs.now))
+        × (result.second ≡ likelihood_of false t.now.config.probability_tolerance t.now.card.now.bytes.now t.now.card.now.header (spec.model_of (job_in t.now) ys.now)) }
 {
-    fill(card, h, places, xs, model);
-    fill(card, h, places, ys, other);
-    let b = diagnostics::fit_diagnostics_both(
-        card,
-        h,
-        model,
-        other,
-        c.probability_tolerance,
-        columns,
-        others,
-    );
-    let l = b.first;
-    let m = b.second;
-    let right = score(card, h, places, c, anchor, l, xs);
-    let left = score(card, h, places, c, anchor, m, ys);
-    Probes { right, left }
+    let n = model_words::model_numbers(t.card.header);
+    let m = &mut model[..n];
+    let o = &mut other[..n];
+    fill(t, xs, m);
+    fill(t, ys, o);
+    let tolerance = t.config.probability_tolerance;
+    diagnostics::fit_diagnostics_both(t.card, m, o, tolerance, columns, others)
+}
+
+// Two coordinate lists that are finite, evaluated.
+fn evaluate_finite(
+    t: &Task<'_>,
+    xs: &[f64],
+    ys: &[f64],
+    right: &mut Work,
+    left: &mut Work,
+) -> Probes
+    requires { (length xs.now ≡ length t.now.places.now) × (length ys.now ≡ length t.now.places.now) × (all_finite xs.now ≡ true) × (all_finite ys.now ≡ true) }
+    ensures { (result.right ≡ spec.evaluate (job_in t.now) xs.now) × (result.left ≡ spec.evaluate (job_in t.now) ys.now) }
+{
+    let Work { model, columns } = right;
+    let Work {
+        model: other,
+        columns: others,
+    } = left;
+    let b = likelihoods_at(t, xs, ys, model, columns, other, others);
+    Probes {
+        right: score(t, b.first, xs),
+        left: score(t, b.second, ys),
+    }
 }
 
 // Two coordinate lists evaluated: together where both are finite, and otherwise one after the other.
-fn evaluate_both(
-    card: &[u8],
-    h: Header,
-    places: &[usize],
-    c: GstOptimizerConfig,
-    anchor: &[f64],
-    xs: &[f64],
-    ys: &[f64],
-    model: &mut [f64],
-    columns: &mut [f64],
-    other: &mut [f64],
-    others: &mut [f64],
-) -> Probes
-    requires { Lent card.now h places.now anchor.now model.old columns.old × Lent card.now h places.now anchor.now other.old others.old × (length xs.now ≡ length places.now) × (length ys.now ≡ length places.now) }
-    ensures { (result.right ≡ spec.evaluate (job_by card.now h places.now c) xs.now) × (result.left ≡ spec.evaluate (job_by card.now h places.now c) ys.now) }
+fn evaluate_both(t: &Task<'_>, xs: &[f64], ys: &[f64], right: &mut Work, left: &mut Work) -> Probes
+    requires { (length xs.now ≡ length t.now.places.now) × (length ys.now ≡ length t.now.places.now) }
+    ensures { (result.right ≡ spec.evaluate (job_in t.now) xs.now) × (result.left ≡ spec.evaluate (job_in t.now) ys.now) }
 {
-    if numbers::all_finite(xs) {
-        if numbers::all_finite(ys) {
-            return evaluate_finite(
-                card, h, places, c, anchor, xs, ys, model, columns, other, others,
-            );
-        }
+    if numbers::all_finite(xs) && numbers::all_finite(ys) {
+        return evaluate_finite(t, xs, ys, right, left);
     }
-    let right = evaluate(card, h, places, c, anchor, xs, model, columns);
-    let left = evaluate(card, h, places, c, anchor, ys, other, others);
-    Probes { right, left }
+    Probes {
+        right: evaluate(t, xs, right),
+        left: evaluate(t, ys, left),
+    }
 }
 
-fn usable(v: f64) -> Derivative
+fn usable(v: f64) -> Result<f64, Refusal>
     ensures { result ≡ spec.usable v }
 {
     if numbers::is_finite(v) {
-        return Derivative::Slope(v);
+        return Ok(v);
     }
-    Derivative::Unusable(Refusal::InvalidGstOptimization(5))
+    Err(Refusal::InvalidGstOptimization(Reason::GradientNotFinite))
 }
 
 // The derivative from the probes on both sides, h away, where the objective is o.
-fn difference(o: f64, h: f64, right: Evaluated, left: Evaluated) -> Derivative
-    ensures { result ≡ spec.difference_of o h right left }
+fn difference(o: f64, h: f64, p: Probes) -> Result<f64, Refusal>
+    ensures { result ≡ spec.difference_of o h p.right p.left }
 {
-    match right {
-        Evaluated::Value(r) => match left {
-            Evaluated::Value(l) => usable((r - l) / (2.0 * h)),
-            Evaluated::Passed => usable((r - o) / h),
-            Evaluated::Broken(x) => Derivative::Unusable(x),
-        },
-        Evaluated::Passed => match left {
-            Evaluated::Value(l) => usable((o - l) / h),
-            Evaluated::Passed => usable(0.0),
-            Evaluated::Broken(x) => Derivative::Unusable(x),
-        },
-        Evaluated::Broken(x) => Derivative::Unusable(x),
+    let right = p.right?;
+    let left = p.left?;
+    match (right, left) {
+        (Some(r), Some(l)) => usable((r - l) / (2.0 * h)),
+        (Some(r), None) => usable((r - o) / h),
+        (None, Some(l)) => usable((o - l) / h),
+        (None, None) => usable(0.0),
     }
-}
-
-// xs with v at i.
-fn put_probe(xs: &[f64], i: usize, v: f64, probed: &mut [f64])
-    requires { (length probed.old ≡ length xs.now) × (i < length xs.now) }
-    ensures { probed.new ≡ set xs.now i v }
-{
-    matrix::put_row(probed, xs);
-    probed[i] = v;
 }
 
 // The derivative in coordinate i at xs, where the objective is o. The probe on the right and the one on the left have rooms of their own.
 fn derivative(
-    card: &[u8],
-    h: Header,
-    places: &[usize],
-    c: GstOptimizerConfig,
-    anchor: &[f64],
+    t: &Task<'_>,
     xs: &[f64],
     o: f64,
     i: usize,
-    right: &mut [f64],
-    model: &mut [f64],
-    columns: &mut [f64],
-    left: &mut [f64],
-    other: &mut [f64],
-    others: &mut [f64],
-) -> Derivative
-    requires { Lent card.now h places.now anchor.now model.old columns.old × Lent card.now h places.now anchor.now other.old others.old × (length xs.now ≡ length places.now) × (length right.old ≡ length places.now) × (length left.old ≡ length places.now) × (i < length places.now) }
-    ensures { result ≡ spec.derivative (job_by card.now h places.now c) xs.now o i }
+    right: &mut Work,
+    left: &mut Work,
+) -> Result<f64, Refusal>
+    requires { (length xs.now ≡ length t.now.places.now) × (i < length t.now.places.now) }
+    ensures { result ≡ spec.derivative (job_in t.now) xs.now o i }
 {
     let x = xs[i];
-    let e = c.finite_difference_step * numbers::max_of(numbers::abs_of(x), 1.0);
-    put_probe(xs, i, x + e, right);
-    put_probe(xs, i, x - e, left);
-    let p = evaluate_both(
-        card, h, places, c, anchor, right, left, model, columns, other, others,
-    );
-    let r = p.right;
-    let l = p.left;
-    difference(o, e, r, l)
-}
-
-// The derivatives at xs into g, up to the first that is unusable.
-fn differentiate(
-    card: &[u8],
-    h: Header,
-    places: &[usize],
-    c: GstOptimizerConfig,
-    anchor: &[f64],
-    xs: &[f64],
-    o: f64,
-    g: &mut [f64],
-    right: &mut [f64],
-    model: &mut [f64],
-    columns: &mut [f64],
-    left: &mut [f64],
-    other: &mut [f64],
-    others: &mut [f64],
-) -> Verdict
-    requires { Lent card.now h places.now anchor.now model.old columns.old × Lent card.now h places.now anchor.now other.old others.old × (length xs.now ≡ length places.now) × (length g.old ≡ length places.now) × (length right.old ≡ length places.now) × (length left.old ≡ length places.now) }
-    ensures { slopes_of result g.new ≡ spec.gradient (job_by card.now h places.now c) xs.now o }
-{
+    let e = t.config.finite_difference_step * numbers::max_of(numbers::abs_of(x), 1.0);
     let n = xs.len();
-    for i in 0..n {
-        let d = derivative(
-            card, h, places, c, anchor, xs, o, i, right, model, columns, left, other, others,
-        );
-        match d {
-            Derivative::Slope(v) => {
-                g[i] = v;
-            }
-            Derivative::Unusable(r) => {
-                return Verdict::Refused(r);
-            }
-        }
-    }
-    Verdict::Good
+    let mut ahead = [0.0; 64];
+    let mut behind = [0.0; 64];
+    let a = &mut ahead[..n];
+    let b = &mut behind[..n];
+    a.copy_from_slice(xs);
+    b.copy_from_slice(xs);
+    a[i] = x + e;
+    b[i] = x - e;
+    difference(o, e, evaluate_both(t, a, b, right, left))
 }
 
-// Room for the coordinates of a probe; the `ensures` gives the length, which lending a part needs.
-fn probe_room() -> [f64; 64]
-    ensures { 64 ≡ length result }
-{
-    [0.0; 64]
-}
-
-// The gradient at xs, where the objective is o, into g. The probes on the right use the rooms that are lent.
+// The gradient at xs, where the objective is o, into g, up to the first derivative that is unusable. The probes on the right use the room that is lent.
 pub fn gradient(
-    card: &[u8],
-    h: Header,
-    places: &[usize],
-    c: GstOptimizerConfig,
-    anchor: &[f64],
+    t: &Task<'_>,
     xs: &[f64],
     o: f64,
     g: &mut [f64],
-    probed: &mut [f64],
-    model: &mut [f64],
-    columns: &mut [f64],
-) -> Verdict
-    requires { Lent card.now h places.now anchor.now model.old columns.old × (length xs.now ≡ length places.now) × (length g.old ≡ length places.now) × (length probed.old ≡ length places.now) }
-    ensures { (slopes_of result g.new ≡ spec.gradient (job_by card.now h places.now c) xs.now o) × (length probed.new ≡ length probed.old) × (length model.new ≡ length model.old) × (length columns.new ≡ length columns.old) }
+    work: &mut Work,
+) -> Result<(), Refusal>
+    requires { (length xs.now ≡ length t.now.places.now) × (length g.old ≡ length t.now.places.now) }
+    ensures { slopes_of result g.new ≡ spec.gradient (job_in t.now) xs.now o }
 {
-    let n = xs.len();
-    let count = model_words::model_numbers(h);
-    let mut left = probe_room();
-    let mut other = model_words::model_room();
-    let mut others = model_words::columns_room();
-    differentiate(
-        card,
-        h,
-        places,
-        c,
-        anchor,
-        xs,
-        o,
-        g,
-        probed,
-        model,
-        columns,
-        &mut left[..n],
-        &mut other[..count],
-        &mut others,
-    )
+    let mut left = Work::new();
+    for (i, slope) in g.iter_mut().enumerate() {
+        *slope = derivative(t, xs, o, i, work, &mut left)?;
+    }
+    Ok(())
 }

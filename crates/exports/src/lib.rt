@@ -1,15 +1,34 @@
 // The entry points for C and Rust: numbers and slices only. include/mintshuttle.h says the same in C's terms.
 #![tactic(auto)]
 
-ghost use Rattle.std.specs.Prelude.{◌≡◌, ◌++◌, ◌≤◌, min, length, drop};
+ghost use Rattle.std.specs.Prelude.{◌≡◌, ◌++◌, ◌≤◌, length, drop};
 ghost use Rattle.lists.specs.Build.{build};
 ghost use Rattle.numbers.specs.Slice.{at};
 ghost use Rattle.root.specs.Root.{sqrt};
 ghost use Rattle.logarithm.specs.Steps.{ln, ln_by};
 ghost use Rattle.library.specs.Entries.{probes_entry, setting_entry, apply_entry, choi_entry, probabilities_entry};
-ghost use Rattle.exports.specs.Exported.{Exported, SheetExported, ReadExported, Mapped};
+ghost use Rattle.exports.specs.Exported.{AnyCall, Told, Exported, SheetExported, ReadExported, Mapped};
 
 use answer_words::{put_answer, put_reading};
+use outcome::Answer;
+use refusal::Refusal;
+
+// Runs a call where there is room for its answer in words, and tells the answer; 16 before it where there is none.
+fn told<F: FnOnce(&mut [u64], &mut [f64]) -> Result<Answer, Refusal>>(
+    res: &mut [u64],
+    work: &mut [f64],
+    answer: &mut [u64],
+    call: F,
+) -> u64
+    requires { AnyCall F.FnOnce call }
+    ensures { Told F.FnOnce call res.old res.new work.old work.new answer.old answer.new result }
+{
+    if answer.len() < 5 {
+        numbers::clear(work);
+        return Refusal::ShortBuffer.code();
+    }
+    put_answer(call(res, work), answer)
+}
 
 // The sheet of a card.
 #[unsafe(no_mangle)]
@@ -21,12 +40,12 @@ pub extern "C" fn mintshuttle_sheet(
 ) -> u64
     ensures { SheetExported card.now res.old res.new work.old work.new answer.old answer.new result }
 {
-    if answer.len() < 5 {
-        numbers::clear(work);
-        return 16;
-    }
-    let a = tomography::sheet(card, res, work);
-    put_answer(a, answer)
+    told(
+        res,
+        work,
+        answer,
+        |res, work| tomography::sheet(card, res, work),
+    )
 }
 
 // The expectations of the product probes of n qubits.
@@ -39,12 +58,12 @@ pub extern "C" fn mintshuttle_probes(
 ) -> u64
     ensures { Exported (probes_entry n) res.old res.new work.old work.new answer.old answer.new result }
 {
-    if answer.len() < 5 {
-        numbers::clear(work);
-        return 16;
-    }
-    let a = library::product_probe_expectations(n, res, work);
-    put_answer(a, answer)
+    told(
+        res,
+        work,
+        answer,
+        |res, work| library::product_probe_expectations(n, res, work),
+    )
 }
 
 // The axes of one setting of n qubits.
@@ -58,12 +77,12 @@ pub extern "C" fn mintshuttle_setting(
 ) -> u64
     ensures { Exported (setting_entry n index) res.old res.new work.old work.new answer.old answer.new result }
 {
-    if answer.len() < 5 {
-        numbers::clear(work);
-        return 16;
-    }
-    let a = library::local_pauli_setting(n, index, res, work);
-    put_answer(a, answer)
+    told(
+        res,
+        work,
+        answer,
+        |res, work| library::local_pauli_setting(n, index, res, work),
+    )
 }
 
 // A transfer matrix of 4^n by 4^n values applied to 4^n expectations.
@@ -78,12 +97,12 @@ pub extern "C" fn mintshuttle_apply<'a>(
 ) -> u64
     ensures { Exported (apply_entry n values.now input.now) res.old res.new work.old work.new answer.old answer.new result }
 {
-    if answer.len() < 5 {
-        numbers::clear(work);
-        return 16;
-    }
-    let a = library::apply_expectations(n, values, input, res, work);
-    put_answer(a, answer)
+    told(
+        res,
+        work,
+        answer,
+        |res, work| library::apply_expectations(n, values, input, res, work),
+    )
 }
 
 // The normalized Choi matrix of a transfer matrix of 4^n by 4^n values.
@@ -97,12 +116,12 @@ pub extern "C" fn mintshuttle_choi(
 ) -> u64
     ensures { Exported (choi_entry n values.now) res.old res.new work.old work.new answer.old answer.new result }
 {
-    if answer.len() < 5 {
-        numbers::clear(work);
-        return 16;
-    }
-    let a = library::normalized_choi(n, values, res, work);
-    put_answer(a, answer)
+    told(
+        res,
+        work,
+        answer,
+        |res, work| library::normalized_choi(n, values, res, work),
+    )
 }
 
 // The probabilities of a gate sequence.
@@ -119,12 +138,12 @@ pub extern "C" fn mintshuttle_probabilities<'a>(
 ) -> u64
     ensures { Exported (probabilities_entry d effects names.now numbers.now sequence.now) res.old res.new work.old work.new answer.old answer.new result }
 {
-    if answer.len() < 5 {
-        numbers::clear(work);
-        return 16;
-    }
-    let a = library::probabilities(d, effects, names, numbers, sequence, res, work);
-    put_answer(a, answer)
+    told(
+        res,
+        work,
+        answer,
+        |res, work| library::probabilities(d, effects, names, numbers, sequence, res, work),
+    )
 }
 
 // What the reader says of a card, of any kind of document 01: whether it would be refused by its layout alone.
@@ -133,19 +152,9 @@ pub extern "C" fn mintshuttle_read(card: &[u8], answer: &mut [u64]) -> u64
     ensures { ReadExported card.now answer.old answer.new result }
 {
     if answer.len() < 5 {
-        return 16;
+        return Refusal::ShortBuffer.code();
     }
-    let a = card::read(card);
-    put_reading(a, answer)
-}
-
-fn shorter(a: usize, b: usize) -> usize
-    ensures { (result ≡ min a b) × (result ≤ a) × (result ≤ b) }
-{
-    if a < b {
-        return a;
-    }
-    b
+    put_reading(card::read(card), answer)
 }
 
 fn roots(x: &[f64], n: usize, out: &mut [f64])
@@ -177,7 +186,7 @@ fn logarithms<'a>(
 pub extern "C" fn mintshuttle_sqrt_all(x: &[f64], out: &mut [f64]) -> usize
     ensures { Mapped sqrt x.now out.old out.new result }
 {
-    let n = shorter(x.len(), out.len());
+    let n = x.len().min(out.len());
     roots(x, n, out);
     n
 }
@@ -187,7 +196,7 @@ pub extern "C" fn mintshuttle_sqrt_all(x: &[f64], out: &mut [f64]) -> usize
 pub extern "C" fn mintshuttle_ln_all(x: &[f64], out: &mut [f64]) -> usize
     ensures { Mapped ln x.now out.old out.new result }
 {
-    let n = shorter(x.len(), out.len());
+    let n = x.len().min(out.len());
     let t = logarithm::tables();
     logarithms(&t.quotients, &t.remainders, x, n, out);
     n

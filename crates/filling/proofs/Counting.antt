@@ -4,9 +4,11 @@ use mathlib.Core.Bool.{Bool, true, false, cond}
 use mathlib.Core.List.{List}
 use Prim.Native.Nat.{ℕ, ◌+◌, ◌≤◌}
 use native.Mathlib.Omega.{arith}
-use lib.ListN.{length}
-use lib.Ieee.{Float, lt}
+use lib.ListN.{length, take}
+use lib.Ieee.{Float, nan, lt}
+use Rattle.std.specs.List.{fold as chain}
 use Rattle.lists.specs.Fold.{fold}
+use Rattle.lists.proofs.Chains.{fold-front}
 use Rattle.lists.proofs.Folding.{fold-none, fold_more, fold_end}
 use Rattle.numbers.specs.Number.{zero_f, minus_zero_f, ◌+ᶠ◌}
 use Rattle.numbers.specs.Slice.{at}
@@ -44,9 +46,9 @@ module _ (u : List Float) where
   unfolding active_count
   counted-all i active sum h p = fold_end _ i (length u) 0 active h p.count
 
-  pub threshold-is : (m : ℕ) (s t : Float) → m ≡ active_count u → s ≡ sum_from minus_zero_f u m → t ≡ excess s m → t ≡ threshold u
-  unfolding threshold
-  threshold-is m s t e f g = g ∙ rw (f, e)
+  pub threshold-is : (m : ℕ) (s t : Float) → m ≡ active_count u → m ≤ length u → s ≡ chain (λ sum x. sum +ᶠ x) minus_zero_f (take m u) → t ≡ excess s m → t ≡ threshold u
+  unfolding threshold sum_from
+  threshold-is m s t e l f g = g ∙ rw (f ∙ fold-front (λ (sum x : Float). sum +ᶠ x) minus_zero_f nan m u l, e)
 
 pub filling-is : (w u x : List Float) (t : Float) → u ≡ descending w → t ≡ threshold u → x ≡ lowered t w → x ≡ filling w
 unfolding filling

@@ -1,27 +1,24 @@
 -- The whole fit, from the card's model on. Assumes nothing.
+use Rattle.std.proofs.Common.{Ok}
 use Prim.Native.Nat.{ℕ, ◌≤◌, ◌<◌}
 use mathlib.Core.Path.{◌≡◌, sym, ap, ap₂, subst, ◌∙◌}
-use mathlib.Core.List.{List, ◌++◌}
+use mathlib.Core.List.{List}
 use native.Mathlib.Omega.{arith}
-use lib.ListN.{length, get_or, take, drop}
+use lib.ListN.{length, get_or}
 use lib.Ieee.{Float}
 use Rattle.lists.specs.Fold.{fold}
-use Rattle.lists.proofs.Parts.{front-is, front_long, front-keeps}
-use Rattle.numbers.specs.Slice.{at}
 use Rattle.card_layout.specs.declared.Header.{Header}
 use Rattle.card_places.specs.Shape.{Shaped}
 use Rattle.card_places.proofs.ByKind.{at5, words5}
 use Rattle.card_parts.specs.Parts.{Sequence}
 use Rattle.model_words.specs.Words.{model_numbers}
 use Rattle.likelihood.specs.declared.Diagnostics.{Diagnostics}
-use Rattle.likelihood.specs.declared.Likelihood.{Likelihood}
-use Rattle.likelihood.specs.declared.Likelihood.TheVariants.{Fit}
+use Rattle.likelihood.specs.Multinomial.{Likelihood}
 use Rattle.descent.specs.declared.GstOptimizerConfig.{GstOptimizerConfig}
-use Rattle.descent.specs.Fit.{Job, State, going, Outcome, size, iterations, coordinates_of, objective_of, next, begin_by, after, finished, fit_by, fit_of}
+use Rattle.descent.specs.Fit.{Job, State, going, Outcome, iterations, coordinates_of, objective_of, next, begin_by, after, finished, fit_by, fit_of}
 use Rattle.parameters.specs.Parameters.{config_of, places_of}
 use Rattle.parameters.proofs.Places.{length-places}
 use Rattle.objective.specs.Job.{job_by, Placed}
-use Rattle.objective.proofs.Maps.{length-map}
 use Rattle.fit.specs.Outcome.{job_of}
 
 -- the card's likelihood is l
@@ -31,34 +28,17 @@ module _ (J : Job) (l : Likelihood) (h : l ≡ J.likelihood J.model) where
   fit-by o e f = f ∙ ap (fit_by J) (sym e ∙ h)
 
 -- the card's model fits, with the diagnostics d
-module _ (J : Job) (d : Diagnostics) (h : J.likelihood J.model ≡ Fit d) where
+module _ (J : Job) (d : Diagnostics) (h : J.likelihood J.model ≡ Ok d) where
   -- the first point, whose coordinates xs have the objective o
   pub begins : (xs : List Float) (o : Float) → xs ≡ coordinates_of J J.model → o ≡ objective_of J d.log_likelihood xs
-      → going (record { coordinates = xs; objective = o; steps = 0; evaluations = 1 }) ≡ begin_by J (Fit d)
+      → going (record { coordinates = xs; objective = o; steps = 0; evaluations = 1 }) ≡ begin_by J (Ok d)
   begins xs o a b = rw (b, a)
 
   -- the steps lead from the first state to s
-  pub fit-ends : (t s : State) → t ≡ begin_by J (Fit d) → s ≡ fold (iterations J) (λ i s. next J s) t → finished J d s ≡ fit_of J
+  pub fit-ends : (t s : State) → t ≡ begin_by J (Ok d) → s ≡ fold (iterations J) (λ i s. next J s) t → finished J d s ≡ fit_of J
   unfolding fit_of after
   fit-ends t s a b =
       ap (finished J d) (b ∙ ap (fold (iterations J) (λ i s. next J s)) (a ∙ ap (begin_by J) (sym h))) ∙ ap (fit_by J) (sym h)
-
--- the numbers at the coordinates' entries were read from the model m, and came back as y, at the front of a room that held l
-module _ (J : Job) (m y l : List Float) (e : y ≡ coordinates_of J m) (a : m ≡ J.model) where
-  own : y ≡ coordinates_of J J.model
-  own = e ∙ ap (coordinates_of J) a
-
-  long : length (coordinates_of J J.model) ≡ size J
-  long = length-map (at J.model) J.places
-
-  pub read-front : take (size J) (y ++ drop (size J) l) ≡ coordinates_of J J.model
-  read-front = front-is (size J) y l (coordinates_of J J.model) own long
-
-  pub read_fits : size J ≤ length (y ++ drop (size J) l)
-  read_fits = front_long (size J) y l (coordinates_of J J.model) own long
-
-  pub read-room : size J ≤ length l → length (y ++ drop (size J) l) ≡ length l
-  read-room h = front-keeps (size J) y l (coordinates_of J J.model) own long h
 
 -- the controls of a fit card
 pub controls-in : (s : List ℕ) (h : Header) → Shaped s h → h.kind ≡ 5 → 72 ≤ length s

@@ -1,5 +1,6 @@
 -- What a fit hands back, and the job that a fit card gives.
-use Rattle.std.specs.Prelude.{ℕ, ◌+◌, ◌*◌, List, Float}
+use Rattle.std.specs.Prelude.{Result, Ok, Err, ℕ, ◌+◌, ◌*◌, List, Float}
+use Rattle.refusal.specs.declared.Refusal.{Refusal}
 use Rattle.card_layout.specs.declared.Header.{Header}
 use Rattle.likelihood.specs.declared.Diagnostics.{Diagnostics}
 use Rattle.descent.specs.declared.GstTermination.{GstTermination}
@@ -7,8 +8,6 @@ use Rattle.descent.specs.Fit.{Job, Point, Fitted, Outcome, fitted, unfitted, siz
 use Rattle.parameters.specs.Parameters.{config_of, places_of}
 use Rattle.objective.specs.Job.{job_by}
 use Rattle.fit.specs.declared.Shown.{Shown}
-use Rattle.fit.specs.declared.Fitting.{Fitting}
-use Rattle.fit.specs.declared.Fitting.TheVariants as fitting
 
 -- the job of a fit card
 abbrev pub job_of : List ℕ → Header → Job
@@ -27,7 +26,11 @@ abbrev pub fitted_of : Shown → List Float → Fitted
 fitted_of f m =
     record { stop = f.stop; steps = f.steps; evaluations = f.evaluations; initial = f.initial; final = f.final_fit; objective = f.objective; norm = f.norm; model = m }
 
+-- what a sheet shows, or why the fit is refused
+abbrev pub Fitting : Type 0
+Fitting = Result Shown Refusal
+
 -- an answer with the model's numbers that it left
 abbrev pub outcome_of : Fitting → List Float → Outcome
-outcome_of (fitting.Fitted f) m = fitted (fitted_of f m)
-outcome_of (fitting.Refused r) m = unfitted r
+outcome_of (Ok f) m = fitted (fitted_of f m)
+outcome_of (Err r) m = unfitted r

@@ -1,24 +1,23 @@
 // The Rust's `reconstruct_gate_set`: steps of descent from the card's model, and the sheet of the point where they end.
 #![tactic(auto)]
 
-ghost use Rattle.std.specs.Prelude.{◌≡◌, map, ℕ, ◌*◌, ◌≤◌, ◌<◌, length, get_or, take};
+ghost use Rattle.std.specs.Prelude.{◌≡◌, true, Some, Ok, map, ℕ, ◌≤◌, ◌<◌, length, get_or, take};
 ghost use Rattle.numbers.specs.Slice.{at};
-ghost use Rattle.card_places.specs.Shape.{Shaped};
 ghost use Rattle.card_parts.specs.Parts.{Sequence};
 ghost use Rattle.model_words.specs.Words.{model_numbers, numbers_of};
-ghost use Rattle.likelihood.specs.declared.Likelihood.TheVariants.{Fit};
+ghost use Rattle.diagnostics.specs.Diagnostics.{likelihood_of};
 ghost use Rattle.descent.specs.Fit as spec;
 ghost use Rattle.parameters.specs.Parameters.{config_of, places_of};
-ghost use Rattle.objective.specs.Job.{job_by, Placed, Lent};
-ghost use Rattle.steps.specs.declared.Status.TheVariants.{Stopped};
+ghost use Rattle.objective.specs.Tasks.{job_in};
 ghost use Rattle.steps.specs.Running.{point_of, state_of, keeps_norm, Normed, Underway};
 ghost use Rattle.fit.specs.Outcome.{job_of, shown_of, outcome_of};
 
-use card_layout::Header;
-use descent::{GstOptimizerConfig, GstTermination};
-use likelihood::{Diagnostics, Likelihood};
+use card_parts::Card;
+use descent::GstTermination;
+use likelihood::{Diagnostics, Unfit};
+use objective::{Task, Work};
 use refusal::Refusal;
-use steps::{Running, Slope, Status, room, run, slope_at};
+use steps::{Running, run, slope_at};
 
 // What a sheet shows of a fit beside its model.
 #[derive(Clone, Copy)]
@@ -32,255 +31,191 @@ pub struct Shown {
     pub norm: f64,
 }
 
-#[derive(Clone, Copy)]
-pub enum Fitting {
-    Fitted(Shown),
-    Refused(Refusal),
-}
-
-// The numbers at the coordinates' entries.
-fn read(model: &[f64], places: &[usize], out: &mut [f64])
-    requires { (length out.old ≡ length places.now) × ((i : ℕ) → i < length places.now → get_or places.now i 0 < length model.now) }
-    ensures { out.new ≡ map (at model.now) places.now }
-{
-    numbers::gather(model, places, out);
-}
-
 fn reason(stop: GstTermination, flat: bool) -> GstTermination
     ensures { result ≡ spec.reason_at stop flat }
 {
-    match stop {
-        GstTermination::GradientTolerance => GstTermination::GradientTolerance,
-        GstTermination::ObjectiveTolerance => GstTermination::ObjectiveTolerance,
-        GstTermination::MaximumIterations => {
-            if flat {
-                return GstTermination::GradientTolerance;
-            }
-            GstTermination::MaximumIterations
-        }
-        GstTermination::LineSearchStalled => GstTermination::LineSearchStalled,
+    if flat && matches!(stop, GstTermination::MaximumIterations) {
+        return GstTermination::GradientTolerance;
     }
+    stop
 }
 
-fn diagnostics_in(l: Likelihood) -> Diagnostics
+// Whether the gradient at which a fit stops for this reason is the final one.
+fn keeps_norm(k: GstTermination) -> bool
+    ensures { result ≡ keeps_norm k }
+{
+    matches!(
+        k,
+        GstTermination::GradientTolerance | GstTermination::LineSearchStalled
+    )
+}
+
+fn diagnostics_in(l: Result<Diagnostics, Unfit>) -> Diagnostics
     ensures { result ≡ spec.diagnostics_in l }
 {
-    match l {
-        Likelihood::Fit(d) => d,
-        Likelihood::Failed => Diagnostics {
-            log_likelihood: 0.0,
-            deviance: 0.0,
-        },
-        Likelihood::Refused(_) => Diagnostics {
-            log_likelihood: 0.0,
-            deviance: 0.0,
-        },
-    }
+    l.unwrap_or(Diagnostics {
+        log_likelihood: 0.0,
+        deviance: 0.0,
+    })
 }
 
-// The sheet of a fit that stops at r, where the gradient's norm is z; its model is left in `model`.
+// The likelihood of the model that has xs, which is left at the front of `model`.
+fn leave(
+    t: &Task<'_>,
+    xs: &[f64],
+    model: &mut [f64],
+    columns: &mut [f64],
+) -> Result<Diagnostics, Unfit>
+    requires { (length xs.now ≡ length t.now.places.now) × (2320 ≤ length model.old) × (2048 ≤ length columns.old) }
+    ensures { (take (model_numbers t.now.card.now.header) model.new ≡ spec.model_of (job_in t.now) xs.now)
+        × (result ≡ spec.Job.likelihood (job_in t.now) (spec.model_of (job_in t.now) xs.now)) }
+{
+    let n = model_words::model_numbers(t.card.header);
+    let m = &mut model[..n];
+    objective::fill(t, xs, m);
+    diagnostics::fit_diagnostics(t.card, m, true, t.config.probability_tolerance, columns)
+}
+
+// The sheet of a fit that stops at r, where the gradient's norm is z; its model is left at the front of the room.
 fn show(
-    card: &[u8],
-    h: Header,
-    places: &[usize],
-    c: GstOptimizerConfig,
+    t: &Task<'_>,
     initial: Diagnostics,
     stop: GstTermination,
     z: f64,
-    r: Running,
-    model: &mut [f64],
-    columns: &mut [f64],
+    r: &Running,
+    work: &mut Work,
 ) -> Shown
-    requires { Placed card.now h places.now × (length model.old ≡ model_numbers h) × (h.gates * (h.dimension * h.dimension) ≤ length columns.old) × Underway r }
-    ensures { (model.new ≡ spec.model_of (job_by card.now h places.now c) (take (length places.now) r.coordinates))
-        × (result ≡ shown_of (job_by card.now h places.now c) initial stop z (point_of (length places.now) r)) }
+    requires { Underway r.now }
+    ensures { (take (model_numbers t.now.card.now.header) work.new.model ≡ spec.model_of (job_in t.now) (take (length t.now.places.now) r.now.coordinates))
+        × (result ≡ shown_of (job_in t.now) initial stop z (point_of (length t.now.places.now) r.now)) }
 {
-    let p = places.len();
-    let x = r.coordinates;
-    objective::fill(card, h, places, &x[..p], model);
-    let l = diagnostics::fit_diagnostics(card, h, model, true, c.probability_tolerance, columns);
-    let fit = diagnostics_in(l);
-    let steps = r.steps;
-    let evaluations = r.evaluations + 2 * (p as u64);
-    let objective = r.objective;
+    let p = t.places.len();
+    let Work { model, columns } = work;
+    let l = leave(t, &r.coordinates[..p], model, columns);
     Shown {
         stop,
-        steps,
-        evaluations,
+        steps: r.steps,
+        evaluations: r.evaluations + 2 * (p as u64),
         initial,
-        final_fit: fit,
-        objective,
+        final_fit: diagnostics_in(l),
+        objective: r.objective,
         norm: z,
     }
 }
 
 // The final gradient, and the sheet.
 fn close(
-    card: &[u8],
-    h: Header,
-    places: &[usize],
-    c: GstOptimizerConfig,
-    anchor: &[f64],
+    t: &Task<'_>,
     initial: Diagnostics,
     stop: GstTermination,
-    r: Running,
-    model: &mut [f64],
-    columns: &mut [f64],
-) -> Fitting
-    requires { Lent card.now h places.now anchor.now model.old columns.old × Underway r }
-    ensures { outcome_of result model.new ≡ spec.closed (job_by card.now h places.now c) initial stop (point_of (length places.now) r) }
+    r: &Running,
+    work: &mut Work,
+) -> Result<Shown, Refusal>
+    requires { Underway r.now }
+    ensures { outcome_of result (take (model_numbers t.now.card.now.header) work.new.model) ≡ spec.closed (job_in t.now) initial stop (point_of (length t.now.places.now) r.now) }
 {
-    let mut g = room();
-    let found = slope_at(card, h, places, c, anchor, r, &mut g, model, columns);
-    match found {
-        Slope::Norm(z) => {
-            let k = reason(stop, z <= c.gradient_tolerance);
-            Fitting::Fitted(show(card, h, places, c, initial, k, z, r, model, columns))
-        }
-        Slope::Unusable(x) => Fitting::Refused(x),
-    }
-}
-
-fn keeps_norm(k: GstTermination) -> bool
-    ensures { result ≡ keeps_norm k }
-{
-    match k {
-        GstTermination::GradientTolerance => true,
-        GstTermination::ObjectiveTolerance => false,
-        GstTermination::MaximumIterations => false,
-        GstTermination::LineSearchStalled => true,
-    }
+    let mut room = [0.0; 64];
+    let g = &mut room[..t.places.len()];
+    let z = slope_at(t, r, g, work)?;
+    let k = reason(stop, z <= t.config.gradient_tolerance);
+    Ok(show(t, initial, k, z, r, work))
 }
 
 // The same, where the last gradient may be the final one: then it is not worked out again.
 fn stop_at(
-    card: &[u8],
-    h: Header,
-    places: &[usize],
-    c: GstOptimizerConfig,
-    anchor: &[f64],
+    t: &Task<'_>,
     initial: Diagnostics,
     k: GstTermination,
-    r: Running,
-    model: &mut [f64],
-    columns: &mut [f64],
-) -> Fitting
-    requires { Lent card.now h places.now anchor.now model.old columns.old × Underway r × Normed (job_by card.now h places.now c) (point_of (length places.now) r) r.norm (Stopped k) }
-    ensures { outcome_of result model.new ≡ spec.closed (job_by card.now h places.now c) initial k (point_of (length places.now) r) }
+    r: &Running,
+    work: &mut Work,
+) -> Result<Shown, Refusal>
+    requires { Underway r.now × Normed (job_in t.now) (point_of (length t.now.places.now) r.now) r.now.norm (Some k) }
+    ensures { outcome_of result (take (model_numbers t.now.card.now.header) work.new.model) ≡ spec.closed (job_in t.now) initial k (point_of (length t.now.places.now) r.now) }
 {
-    let z = r.norm;
     if keeps_norm(k) {
-        return Fitting::Fitted(show(card, h, places, c, initial, k, z, r, model, columns));
+        return Ok(show(t, initial, k, r.norm, r, work));
     }
-    close(card, h, places, c, anchor, initial, k, r, model, columns)
+    close(t, initial, k, r, work)
 }
 
 // The end of a fit that has stopped, or has reached the limit.
 fn finish(
-    card: &[u8],
-    h: Header,
-    places: &[usize],
-    c: GstOptimizerConfig,
-    anchor: &[f64],
+    t: &Task<'_>,
     initial: Diagnostics,
-    r: Running,
-    model: &mut [f64],
-    columns: &mut [f64],
-) -> Fitting
-    requires { Lent card.now h places.now anchor.now model.old columns.old × Underway r × Normed (job_by card.now h places.now c) (point_of (length places.now) r) r.norm r.status }
-    ensures { outcome_of result model.new ≡ spec.finished (job_by card.now h places.now c) initial (state_of (length places.now) r) }
+    r: &Running,
+    work: &mut Work,
+) -> Result<Shown, Refusal>
+    requires { Underway r.now × Normed (job_in t.now) (point_of (length t.now.places.now) r.now) r.now.norm r.now.stop }
+    ensures { outcome_of result (take (model_numbers t.now.card.now.header) work.new.model) ≡ spec.finished (job_in t.now) initial (state_of (length t.now.places.now) r.now) }
 {
-    let s = r.status;
-    let limit = GstTermination::MaximumIterations;
-    match s {
-        Status::Going => close(
-            card, h, places, c, anchor, initial, limit, r, model, columns,
-        ),
-        Status::Stopped(k) => stop_at(card, h, places, c, anchor, initial, k, r, model, columns),
-        Status::Turned(x) => Fitting::Refused(x),
+    match r.stop {
+        None => close(t, initial, GstTermination::MaximumIterations, r, work),
+        Some(k) => stop_at(t, initial, k, r, work),
     }
 }
 
-// The fit from the card's model on, whose diagnostics are d; the model's numbers stand in `model`.
-fn fit_from(
-    card: &[u8],
-    h: Header,
-    places: &[usize],
-    c: GstOptimizerConfig,
-    d: Diagnostics,
-    model: &mut [f64],
-    columns: &mut [f64],
-) -> Fitting
-    requires { Placed card.now h places.now × (model.old ≡ numbers_of card.now h) × (h.gates * (h.dimension * h.dimension) ≤ length columns.old) × (c.max_backtracks ≤ 255) × (c.max_iterations ≤ 65535)
-        × (spec.Job.likelihood (job_by card.now h places.now c) (numbers_of card.now h) ≡ Fit d) }
-    ensures { outcome_of result model.new ≡ spec.fit_of (job_by card.now h places.now c) }
+// The fit from the card's model on, whose diagnostics are d.
+fn fit_from(t: &Task<'_>, d: Diagnostics, work: &mut Work) -> Result<Shown, Refusal>
+    requires { spec.Job.likelihood (job_in t.now) (numbers_of t.now.card.now.bytes.now t.now.card.now.header) ≡ Ok d }
+    ensures { outcome_of result (take (model_numbers t.now.card.now.header) work.new.model) ≡ spec.fit_of (job_in t.now) }
 {
-    let p = places.len();
-    let mut x = room();
-    read(model, places, &mut x[..p]);
-    let anchor = x;
-    let o = objective::objective(card, h, places, c, &anchor[..p], d.log_likelihood, &x[..p]);
+    let mut coordinates = [0.0; 64];
+    coordinates[..t.places.len()].copy_from_slice(t.anchor);
     let start = Running {
-        coordinates: x,
-        objective: o,
+        coordinates,
+        objective: objective::objective(t, d.log_likelihood, t.anchor),
         norm: 0.0,
         steps: 0,
         evaluations: 1,
-        status: Status::Going,
+        stop: None,
     };
-    let r = run(card, h, places, c, &anchor[..p], start, model, columns);
-    finish(card, h, places, c, &anchor[..p], d, r, model, columns)
+    let r = run(t, start, work)?;
+    finish(t, d, &r, work)
 }
 
-// The fit with coordinates at these places.
-fn fit_at(
-    card: &[u8],
-    h: Header,
+// The likelihood of the card's model, and its numbers at the coordinates' entries.
+fn begin(
+    card: &Card<'_>,
     places: &[usize],
-    c: GstOptimizerConfig,
+    tolerance: f64,
+    anchor: &mut [f64],
     model: &mut [f64],
     columns: &mut [f64],
-) -> Fitting
-    requires { Placed card.now h places.now × (length model.old ≡ model_numbers h) × (h.gates * (h.dimension * h.dimension) ≤ length columns.old) × (c.max_backtracks ≤ 255) × (c.max_iterations ≤ 65535) }
-    ensures { outcome_of result model.new ≡ spec.fit_of (job_by card.now h places.now c) }
+) -> Result<Diagnostics, Unfit>
+    requires { (5 ≤ card.now.header.kind) × ((r : ℕ) → r < card.now.header.records → Sequence card.now.bytes.now card.now.header r)
+        × ((i : ℕ) → i < length places.now → get_or places.now i 0 < model_numbers card.now.header)
+        × (length anchor.old ≡ length places.now) × (2320 ≤ length model.old) × (2048 ≤ length columns.old) }
+    ensures { (result ≡ likelihood_of true tolerance card.now.bytes.now card.now.header (numbers_of card.now.bytes.now card.now.header))
+        × (anchor.new ≡ map (at (numbers_of card.now.bytes.now card.now.header)) places.now) }
 {
-    model_words::load_model(card, h, model);
-    let first = diagnostics::fit_diagnostics(
-        card,
-        h,
-        model,
-        true,
-        c.probability_tolerance,
-        columns,
-    );
-    match first {
-        Likelihood::Fit(d) => fit_from(card, h, places, c, d, model, columns),
-        Likelihood::Failed => Fitting::Refused(Refusal::InvalidProbabilities),
-        Likelihood::Refused(r) => Fitting::Refused(r),
-    }
+    let n = model_words::model_numbers(card.header);
+    let m = &mut model[..n];
+    model_words::load_model(card.bytes, card.header, m);
+    numbers::gather(m, places, anchor);
+    diagnostics::fit_diagnostics(card, m, true, tolerance, columns)
 }
 
-// Room for the coordinates' places; the `ensures` gives the length, which lending a part needs.
-fn places_room() -> [usize; 64]
-    ensures { 64 ≡ length result }
+// The fit of a card whose coordinates have entries; the model that it ends at is left at the front of the room.
+pub fn reconstruct_gate_set(card: &Card<'_>, work: &mut Work) -> Result<Shown, Refusal>
+    requires { (card.now.header.kind ≡ 5) × (card.now.header.coordinates ≤ 64) × ((r : ℕ) → r < card.now.header.records → Sequence card.now.bytes.now card.now.header r)
+        × ((i : ℕ) → i < card.now.header.coordinates → get_or (places_of card.now.bytes.now card.now.header) i 0 < model_numbers card.now.header)
+        × ((config_of card.now.bytes.now).max_backtracks ≤ 255) × ((config_of card.now.bytes.now).max_iterations ≤ 65535) }
+    ensures { outcome_of result (take (model_numbers card.now.header) work.new.model) ≡ spec.fit_of (job_of card.now.bytes.now card.now.header) }
 {
-    [0; 64]
-}
-
-// The fit of a card whose coordinates have entries; the model that it ends at is left in `model`.
-pub fn reconstruct_gate_set(
-    card: &[u8],
-    h: Header,
-    model: &mut [f64],
-    columns: &mut [f64],
-) -> Fitting
-    requires { Shaped card.now h × (h.kind ≡ 5) × (h.coordinates ≤ 64) × ((r : ℕ) → r < h.records → Sequence card.now h r) × ((i : ℕ) → i < h.coordinates → get_or (places_of card.now h) i 0 < model_numbers h)
-        × ((config_of card.now).max_backtracks ≤ 255) × ((config_of card.now).max_iterations ≤ 65535) × (length model.old ≡ model_numbers h) × (h.gates * (h.dimension * h.dimension) ≤ length columns.old) }
-    ensures { (outcome_of result model.new ≡ spec.fit_of (job_of card.now h)) × (length model.new ≡ length model.old) × (length columns.new ≡ length columns.old) }
-{
-    let n = h.coordinates;
-    let c = parameters::config_of(card);
-    let mut places = places_room();
-    parameters::load_places(card, h, &mut places);
-    fit_at(card, h, &places[..n], c, model, columns)
+    let n = card.header.coordinates;
+    let config = parameters::config_of(card.bytes);
+    let mut places = [0usize; 64];
+    let mut anchor = [0.0; 64];
+    parameters::load_places(card.bytes, card.header, &mut places);
+    let p = &places[..n];
+    let tolerance = config.probability_tolerance;
+    let Work { model, columns } = work;
+    let d = begin(card, p, tolerance, &mut anchor[..n], model, columns)?;
+    let task = Task {
+        card: &*card,
+        places: p,
+        config,
+        anchor: &anchor[..n],
+    };
+    fit_from(&task, d, work)
 }

@@ -1,4 +1,6 @@
 -- Every sheet of a fit card whose coordinates name different entries bears the buyer's statement. Assumes nothing.
+use Rattle.std.proofs.Common.{Err, Ok}
+use Rattle.refusal.specs.Verdicts.{good, Verdict, after}
 use Prim.Native.Nat.{ℕ, ◌+◌, ◌*◌, ◌≤◌, ◌<◌}
 use mathlib.Core.Path.{◌≡◌, refl, sym, ap, subst, ◌∙◌}
 use mathlib.Core.Bool.{Bool, true}
@@ -8,15 +10,11 @@ use lib.ListN.{length, get_or, take, length-append, get_or-append}
 use lib.Seq.{get_or-append-add, take_at}
 use Rattle.lists.specs.Build.{over}
 use Rattle.lists.proofs.Parts.{row_in}
-use Rattle.booleans.proofs.Joined.{clash}
 use Rattle.numbers.specs.Number.{word, finite}
 use Rattle.numbers.specs.Word.{word_at}
 use Rattle.numbers.specs.Slice.{at, words_of}
 use Rattle.numbers.proofs.Slices.{length-words}
 use Rattle.refusal.specs.declared.Refusal.{Refusal}
-use Rattle.refusal.specs.declared.Verdict.{Verdict}
-use Rattle.refusal.specs.declared.Verdict.TheVariants as verdict
-use Rattle.refusal.specs.Verdicts.{after}
 use Rattle.card_layout.specs.declared.Header.{Header}
 use Rattle.card_layout.specs.declared.Coordinate.{Coordinate}
 use Rattle.card_places.specs.Places.{model_at, model_words}
@@ -34,9 +32,8 @@ use Rattle.descent.proofs.Counts.{evaluations-bound}
 use Rattle.parameters.specs.Parameters.{config_of, has_entry, place_of, places_of, request_verdict}
 use Rattle.parameters.proofs.Places.{length-places, place_at, places-inside, entries-there, request-good}
 use Rattle.fit.specs.Outcome.{job_of}
-use Rattle.outcome.specs.declared.Answer.TheVariants.{Fit, Refused}
-use Rattle.outcome.specs.Outcome.{Outcome, refused, Gives}
-use Rattle.outcome.proofs.Refusals.{is_refused}
+use Rattle.outcome.specs.declared.Answer.TheVariants.{Fit}
+use Rattle.outcome.specs.Outcome.{Answered, Outcome, refused, Gives}
 use Rattle.fit_sheets.specs.Sheets.{fit_numbers, fit_words, outcome_sheet, request_sheet, fit_sheet}
 use Rattle.fit_sheets.specs.Buyer.{name_place, word_place, Buyer}
 use Rattle.fit_sheets.proofs.Entries.{same_word, finite-map, stands}
@@ -61,12 +58,12 @@ module _ (s : List ℕ) (h : Header) (f : Fitted) (l : List ℕ) where
       ∙ ap (λ (n : ℕ). get_or (six ++ model_words_of s h f.model) (n + w) 0) (sym (length-words 6 _))
       ∙ get_or-append-add six (model_words_of s h f.model) w 0
 
-module _ (s : List ℕ) (h : Header) (bytes : (i : ℕ) → get_or s i 0 < 256) (good : checked_of s h ≡ verdict.Good) (request : request_verdict s h ≡ verdict.Good)
+module _ (s : List ℕ) (h : Header) (bytes : (i : ℕ) → get_or s i 0 < 256) (passed : checked_of s h ≡ good) (request : request_verdict s h ≡ good)
     (different : distinct (places_of s h) ≡ true) where
   -- the job of such a card is sound
   finite-at : (i : ℕ) → i < h.coordinates → finite (at (numbers_of s h) (get_or (places_of s h) i 0)) ≡ true
   finite-at i l =
-      let p = stands s h good (coordinate_in s h i) (entries-there s h (request-good s h request).1 i l) in
+      let p = stands s h passed (coordinate_in s h i) (entries-there s h (request-good s h request).1 i l) in
       ap (λ (k : ℕ). finite (at (numbers_of s h) k)) (place_at s h i l) ∙ ap finite p.own ∙ p.finite-there
 
   sound : Sound (job_of s h)
@@ -82,7 +79,7 @@ module _ (s : List ℕ) (h : Header) (bytes : (i : ℕ) → get_or s i 0 < 256) 
     entry_kept : (c : Coordinate) → has_entry h c ≡ true → at f.model (place_of h c) ≡ at (numbers_of s h) (place_of h c)
         → get_or (over (fit_words s h f) l) (6 + word_place h c) 0 ≡ word_at s (model_at h + word_place h c)
     entry_kept c e k =
-        let p = stands s h good c e in
+        let p = stands s h passed c e in
         model-word s h f l (word_place h c) p.within ∙ p.shown f.model ∙ ap word (k ∙ p.own) ∙ same_word s bytes (model_at h + word_place h c) p.finite-there
 
     name-kept : (g : ℕ) → g < h.gates → get_or (over (fit_words s h f) l) (6 + name_place h g) 0 ≡ word_at s (model_at h + name_place h g)
@@ -103,7 +100,7 @@ module _ (s : List ℕ) (h : Header) (bytes : (i : ℕ) → get_or s i 0 < 256) 
           subst (λ (n : ℕ). f.evaluations ≤ 1 + 2 * n * (word_at s 1 + 1) + word_at s 1 * word_at s 7) (length-places s h)
           (subst (Counted (job_of s h)) e (evaluations-bound (job_of s h)))
 
-      borne : {R S E : ℕ} {v : Bool} {M : ℕ} {m : List ℕ} → Fit R S E v M ≡ (outcome_sheet s h (fitted f)).answer → m ≡ over (fit_words s h f) l → Buyer s h R S E v m
+      borne : {R S E : ℕ} {v : Bool} {M : ℕ} {m : List ℕ} → ◌≡◌ {A = Answered} (Ok (Fit R S E v M)) (outcome_sheet s h (fitted f)).answer → m ≡ over (fit_words s h f) l → Buyer s h R S E v m
       borne {R} {S} {E} {v} {M} {m} a w =
           let c = subst (Claimed (job_of s h)) e (claimed (job_of s h) sound) in
           subst (Buyer s h R S E v) (sym w)
@@ -124,10 +121,10 @@ module _ (s : List ℕ) (h : Header) (bytes : (i : ℕ) → get_or s i 0 < 256) 
 -- ---- the sheet
 
 -- a refusal is no fit
-never-fit : {A : Type 0} {R S E : ℕ} {v : Bool} {M : ℕ} {r : Refusal} → Fit R S E v M ≡ Refused r → A
-never-fit e = clash true refl (sym (ap is_refused e))
+never-fit : {A : Type 0} {R S E : ℕ} {v : Bool} {M : ℕ} {r : Refusal} → ◌≡◌ {A = Answered} (Ok (Fit R S E v M)) (Err r) → A
+never-fit e = cc
 
-pub buyer : (s : List ℕ) (h : Header) → ((i : ℕ) → get_or s i 0 < 256) → distinct (places_of s h) ≡ true → {R S E : ℕ} {v : Bool} {M : ℕ} {l m : List ℕ} → Gives (fit_sheet s h) l m (Fit R S E v M)
+pub buyer : (s : List ℕ) (h : Header) → ((i : ℕ) → get_or s i 0 < 256) → distinct (places_of s h) ≡ true → {R S E : ℕ} {v : Bool} {M : ℕ} {l m : List ℕ} → Gives (fit_sheet s h) l m (Ok (Fit R S E v M))
     → Buyer s h R S E v m
 unfolding fit_sheet request_sheet
 buyer s h bytes different {R} {S} {E} {v} {M} {l} {m} g = checked (checked_of s h) refl g.answer g.written
@@ -135,15 +132,15 @@ buyer s h bytes different {R} {S} {E} {v} {M} {l} {m} g = checked (checked_of s 
     sheet : descent.Outcome → Outcome
     sheet o = outcome_sheet s h o
 
-    ended : checked_of s h ≡ verdict.Good → request_verdict s h ≡ verdict.Good → (o : descent.Outcome) → fit_of (job_of s h) ≡ o → Fit R S E v M ≡ (sheet o).answer → m ≡ over (sheet o).words l → Buyer s h R S E v m
+    ended : checked_of s h ≡ good → request_verdict s h ≡ good → (o : descent.Outcome) → fit_of (job_of s h) ≡ o → ◌≡◌ {A = Answered} (Ok (Fit R S E v M)) (sheet o).answer → m ≡ over (sheet o).words l → Buyer s h R S E v m
     ended c q (fitted f) e a w = borne s h bytes c q different f l e a w
     ended c q (unfitted r) e a w = never-fit a
 
-    requested : checked_of s h ≡ verdict.Good → (x : Verdict) → request_verdict s h ≡ x → Fit R S E v M ≡ (after x refused (sheet (fit_of (job_of s h)))).answer
+    requested : checked_of s h ≡ good → (x : Verdict) → request_verdict s h ≡ x → ◌≡◌ {A = Answered} (Ok (Fit R S E v M)) (after x refused (sheet (fit_of (job_of s h)))).answer
         → m ≡ over (after x refused (sheet (fit_of (job_of s h)))).words l → Buyer s h R S E v m
-    requested c verdict.Good q a w = ended c q (fit_of (job_of s h)) refl a w
-    requested c (verdict.Refused r) q a w = never-fit a
+    requested c (Ok _) q a w = ended c q (fit_of (job_of s h)) refl a w
+    requested c (Err r) q a w = never-fit a
 
-    checked : (x : Verdict) → checked_of s h ≡ x → Fit R S E v M ≡ (after x refused (request_sheet s h)).answer → m ≡ over (after x refused (request_sheet s h)).words l → Buyer s h R S E v m
-    checked verdict.Good c a w = requested c (request_verdict s h) refl a w
-    checked (verdict.Refused r) c a w = never-fit a
+    checked : (x : Verdict) → checked_of s h ≡ x → ◌≡◌ {A = Answered} (Ok (Fit R S E v M)) (after x refused (request_sheet s h)).answer → m ≡ over (after x refused (request_sheet s h)).words l → Buyer s h R S E v m
+    checked (Ok _) c a w = requested c (request_verdict s h) refl a w
+    checked (Err r) c a w = never-fit a

@@ -1,4 +1,5 @@
 -- The entries of an accepted fit card: where each stands among the sheet's words and on the card, and that it is finite. Assumes nothing.
+use Rattle.refusal.specs.Verdicts.{good}
 use Prim.Native.Nat.{ℕ, suc, ◌+◌, ◌*◌, ◌<◌}
 use mathlib.Core.Path.{◌≡◌, refl, sym, ap, subst, ◌∙◌}
 use mathlib.Core.Bool.{Bool, true, false, cond, ◌&&◌}
@@ -17,7 +18,6 @@ use Rattle.numbers.specs.Word.{word_at}
 use Rattle.numbers.specs.Slice.{at, number_at, numbers_at, all_finite}
 use Rattle.numbers.proofs.Finite.{each-finite}
 use Rattle.numbers.proofs.Slices.{length-numbers}
-use Rattle.refusal.specs.declared.Verdict.TheVariants.{Good}
 use Rattle.significand.proofs.Pattern.{no_nan}
 use Rattle.card_layout.specs.declared.Header.{Header}
 use Rattle.card_layout.specs.declared.Coordinate.{Coordinate}
@@ -76,7 +76,7 @@ pub record Stands (s : List ℕ) (h : Header) (p w : ℕ) : Type 0 where
   pub finite-there : finite (number_at s (model_at h + w)) ≡ true
   pub within : w < model_words h
 
-module _ (s : List ℕ) (h : Header) (good : checked_of s h ≡ Good) where
+module _ (s : List ℕ) (h : Header) (good : checked_of s h ≡ good) where
   -- one of n finite numbers from word `from` on
   finite-one : (from n i : ℕ) → all_finite (numbers_at s from n) ≡ true → i < n → finite (number_at s (from + i)) ≡ true
   finite-one from n i e l = ap finite (sym (number-at s from n i l)) ∙ each-finite (numbers_at s from n) i e (omega (arith, length-numbers s from n))

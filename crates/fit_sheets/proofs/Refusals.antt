@@ -1,4 +1,7 @@
 -- No sheet of a fit is refused by 16, and a refused one writes no word. Assumes nothing.
+use Rattle.likelihood.specs.declared.Unfit.TheVariants.{Probabilities, Refused}
+use Rattle.std.proofs.Common.{Ok, Err}
+use Rattle.refusal.specs.Verdicts.{good}
 use Prim.Native.Nat.{ℕ}
 use mathlib.Core.Path.{◌≡◌, refl}
 use mathlib.Core.Bool.{true, not}
@@ -6,17 +9,17 @@ use mathlib.Core.List.{List}
 use borrow.Author.Tests.{eqb-false}
 use lib.Dec.{eqb}
 use Rattle.logarithm.specs.Steps.{ln}
+use Rattle.refusal.specs.declared.Reason.{Reason}
+use Rattle.refusal.specs.declared.Reason.TheVariants.{Controls, NoRecords, NoCoordinates, RepeatedCoordinate}
 use Rattle.refusal.specs.declared.Refusal.{Refusal}
 use Rattle.refusal.specs.declared.Refusal.TheVariants.{InvalidGstOptimization, InvalidGstParameter}
-use Rattle.refusal.specs.declared.Verdict.TheVariants as verdict
 use Rattle.refusal.specs.Values.{code_of}
 use Rattle.refusal.proofs.Lower.{Lower, lower-good, lower-refused, lower-either, lower-test, lower-each}
 use Rattle.card_layout.specs.declared.Header.{Header}
 use Rattle.card_parts.specs.Parts.{coordinate_in}
 use Rattle.model.specs.Checked.{checked_of}
 use Rattle.model.proofs.Refusals.{lower-model}
-use Rattle.likelihood.specs.declared.Likelihood.{Likelihood}
-use Rattle.likelihood.specs.declared.Likelihood.TheVariants as likelihood
+use Rattle.likelihood.specs.Multinomial.{Likelihood}
 use Rattle.descent.specs.Fit.{fitted, unfitted, fit_of}
 use Rattle.descent.specs.Fit as descent
 use Rattle.descent.proofs.Refusals.{InLikelihood, InOutcome, refusals-in}
@@ -29,22 +32,22 @@ use Rattle.fit_sheets.specs.Sheets.{outcome_sheet, request_sheet, fit_sheet}
 
 -- ---- the request
 
-lower-optimization : (a : ℕ) → Lower (verdict.Refused (InvalidGstOptimization a))
+lower-optimization : (a : Reason) → Lower (Err (InvalidGstOptimization a))
 lower-optimization a = lower-refused (InvalidGstOptimization a) (eqb-false 13 16 refl)
 
 module _ (s : List ℕ) (h : Header) where
   lower-parameter : (i : ℕ) → Lower (parameter_verdict s h i)
   unfolding parameter_verdict
   lower-parameter i =
-      lower-either (repeated s h i) (lower-optimization 4)
+      lower-either (repeated s h i) (lower-optimization RepeatedCoordinate)
       (lower-test (has_entry h (coordinate_in s h i)) (InvalidGstParameter i) (eqb-false 14 16 refl))
 
   lower-request : Lower (request_verdict s h)
   unfolding request_verdict parameters_verdict
   lower-request =
-      lower-either (not (good_config (config_of s))) (lower-optimization 1)
-      (lower-either (eqb h.records 0) (lower-optimization 2)
-      (lower-either (eqb h.coordinates 0) (lower-optimization 3)
+      lower-either (not (good_config (config_of s))) (lower-optimization Controls)
+      (lower-either (eqb h.records 0) (lower-optimization NoRecords)
+      (lower-either (eqb h.coordinates 0) (lower-optimization NoCoordinates)
       (lower-each _ _ lower-parameter)))
 
 -- ---- the fit
@@ -53,12 +56,12 @@ abbrev NotShort : Refusal → Type 0
 NotShort r = code_of r ≡ 16 → ⊥
 
 low-in : (l : Likelihood) → Low l → InLikelihood NotShort l
-low-in (likelihood.Fit d) p = tt
-low-in likelihood.Failed p = tt
-low-in (likelihood.Refused r) p = p.low
+low-in (Ok d) p = tt
+low-in (Err Probabilities) p = tt
+low-in (Err (Refused r)) p = p.low
 
 sound-outcome : (s : List ℕ) (h : Header) (o : descent.Outcome) → InOutcome NotShort o → Sound (outcome_sheet s h o)
-sound-outcome s h (fitted f) p = shown-sound verdict.Good (Fit _ _ _ _ _) _ lower-good refl
+sound-outcome s h (fitted f) p = shown-sound good (Fit _ _ _ _ _) _ lower-good
 sound-outcome s h (unfitted r) p = other r p
 
 pub fit-sheet-sound : (s : List ℕ) (h : Header) → Sound (fit_sheet s h)

@@ -1,4 +1,5 @@
 -- The words of a fit's sheet, written in two parts. Assumes nothing.
+use Rattle.std.proofs.Common.{Ok}
 use Prim.Native.Nat.{ℕ, ◌-◌, ◌≤◌}
 use mathlib.Core.Path.{◌≡◌, sym, ap}
 use mathlib.Core.Bool.{Bool}
@@ -18,9 +19,7 @@ use Rattle.card_places.proofs.Sizes.{model-most}
 use Rattle.model_words.specs.Words.{model_words_of}
 use Rattle.descent.specs.Fit.{Fitted}
 use Rattle.fit.specs.declared.Shown.{Shown}
-use Rattle.fit.specs.declared.Fitting.{Fitting}
-use Rattle.fit.specs.declared.Fitting.TheVariants as fitting
-use Rattle.fit.specs.Outcome.{fitted_of, outcome_of}
+use Rattle.fit.specs.Outcome.{Fitting, fitted_of, outcome_of}
 use Rattle.outcome.specs.declared.Answer.TheVariants.{Fit}
 use Rattle.outcome.specs.Outcome.{Gives}
 use Rattle.outcome.proofs.Outcomes.{same_outcome}
@@ -45,8 +44,8 @@ fit_written s h f l out ys e o q y =
 -- ---- the fit's answer
 
 -- the header of a fit, from the numbers that were worked out of it
-pub fit-shown : (s : List ℕ) (h : Header) (q : Fitting) (f : Shown) (m : List Float) (l out : List ℕ) (stop words : ℕ) (v : Bool) → q ≡ fitting.Fitted f → stop ≡ stop_number f.stop → v ≡ converged f.stop → words ≡ model_words h
-    → out ≡ over (fit_words s h (fitted_of f m)) l → Gives (outcome_sheet s h (outcome_of q m)) l out (Fit stop f.steps f.evaluations v words)
+pub fit-shown : (s : List ℕ) (h : Header) (q : Fitting) (f : Shown) (m : List Float) (l out : List ℕ) (stop words : ℕ) (v : Bool) → q ≡ Ok f → stop ≡ stop_number f.stop → v ≡ converged f.stop → words ≡ model_words h
+    → out ≡ over (fit_words s h (fitted_of f m)) l → Gives (outcome_sheet s h (outcome_of q m)) l out (Ok (Fit stop f.steps f.evaluations v words))
 fit-shown s h q f m l out stop words v e a b c o =
     same_outcome (ap (λ (q : Fitting). outcome_sheet s h (outcome_of q m)) (sym e))
     (record { answer = rw (a, b, c); written = o })

@@ -4,7 +4,7 @@
 ghost use Rattle.std.specs.Prelude.{◌≡◌, ◌≤◌, ◌++◌, length, drop};
 ghost use Rattle.numbers.specs.Slice.{words_of};
 ghost use Rattle.lists.specs.Build.{over};
-ghost use Rattle.refusal.specs.declared.Verdict.TheVariants.{Good};
+ghost use Rattle.refusal.specs.Verdicts.{good};
 ghost use Rattle.card_places.specs.Shape.{Shaped};
 ghost use Rattle.model_words.specs.Words.{model_numbers};
 ghost use Rattle.descent.specs.Fit.{fit_of};
@@ -14,11 +14,12 @@ ghost use Rattle.outcome.specs.Outcome.{Gives};
 ghost use Rattle.fit_sheets.specs.Sheets.{stop_number, converged, fit_numbers, fit_words, FitRequest, outcome_sheet, request_sheet, fit_sheet};
 
 use card_layout::Header;
+use card_parts::Card;
 use descent::GstTermination;
-use fit::{Fitting, Shown};
-use model_words::{columns_room, model_room};
+use fit::Shown;
+use objective::Work;
 use outcome::Answer;
-use refusal::Verdict;
+use refusal::Refusal;
 
 // R of a sheet.
 fn stop_number(r: GstTermination) -> u64
@@ -72,57 +73,61 @@ fn put_words(card: &[u8], h: Header, f: Shown, model: &[f64], res: &mut [u64])
 }
 
 // The sheet of a fit that has left its model's numbers in `model`.
-fn show_fit(card: &[u8], h: Header, q: Fitting, model: &[f64], res: &mut [u64]) -> Answer
+fn show_fit(
+    card: &[u8],
+    h: Header,
+    q: Result<Shown, Refusal>,
+    model: &[f64],
+    res: &mut [u64],
+) -> Result<Answer, Refusal>
     requires { Shaped card.now h × (length model.now ≡ model_numbers h) × (4096 ≤ length res.old) }
     ensures { Gives (outcome_sheet card.now h (outcome_of q model.now)) res.old res.new result }
 {
     match q {
-        Fitting::Refused(r) => Answer::Refused(r),
-        Fitting::Fitted(f) => {
+        Err(r) => Err(r),
+        Ok(f) => {
             put_words(card, h, f, model, res);
             let stop = f.stop;
-            Answer::Fit {
+            Ok(Answer::Fit {
                 stop: stop_number(stop),
                 steps: f.steps,
                 evaluations: f.evaluations,
                 converged: has_converged(stop),
                 words: card_places::model_words(h) as u64,
-            }
+            })
         }
     }
 }
 
 // The fit of a card whose model and request are good.
-fn run_fit(card: &[u8], h: Header, res: &mut [u64]) -> Answer
-    requires { FitRequest card.now h × (request_verdict card.now h ≡ Good) × (4096 ≤ length res.old) }
+fn run_fit(card: &[u8], h: Header, res: &mut [u64]) -> Result<Answer, Refusal>
+    requires { FitRequest card.now h × (request_verdict card.now h ≡ good) × (4096 ≤ length res.old) }
     ensures { Gives (outcome_sheet card.now h (fit_of (job_of card.now h))) res.old res.new result }
 {
     let n = model_words::model_numbers(h);
-    let mut model = model_room();
-    let mut columns = columns_room();
-    let q = fit::reconstruct_gate_set(card, h, &mut model[..n], &mut columns);
+    let accepted = Card {
+        bytes: card,
+        header: h,
+    };
+    let mut work = Work::new();
+    let q = fit::reconstruct_gate_set(&accepted, &mut work);
+    let Work { model, .. } = &work;
     show_fit(card, h, q, &model[..n], res)
 }
 
-fn request_sheet(card: &[u8], h: Header, res: &mut [u64]) -> Answer
+fn request_sheet(card: &[u8], h: Header, res: &mut [u64]) -> Result<Answer, Refusal>
     requires { FitRequest card.now h × (4096 ≤ length res.old) }
     ensures { Gives (request_sheet card.now h) res.old res.new result }
 {
-    let found = parameters::check_request(card, h);
-    match found {
-        Verdict::Refused(r) => Answer::Refused(r),
-        Verdict::Good => run_fit(card, h, res),
-    }
+    parameters::check_request(card, h)?;
+    run_fit(card, h, res)
 }
 
 // Kind 5.
-pub fn fit_sheet(card: &[u8], h: Header, res: &mut [u64]) -> Answer
+pub fn fit_sheet(card: &[u8], h: Header, res: &mut [u64]) -> Result<Answer, Refusal>
     requires { FitRequest card.now h × (4096 ≤ length res.old) }
     ensures { Gives (fit_sheet card.now h) res.old res.new result }
 {
-    let found = model::check_model(card, h);
-    match found {
-        Verdict::Refused(r) => Answer::Refused(r),
-        Verdict::Good => request_sheet(card, h, res),
-    }
+    model::check_model(card, h)?;
+    request_sheet(card, h, res)
 }

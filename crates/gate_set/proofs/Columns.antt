@@ -1,24 +1,26 @@
 -- Gates by columns: a row times such a matrix is the matrix itself times a column, sum by sum in the same order. Assumes nothing.
 use Prim.Native.Nat.{ℕ, ◌+◌, ◌-◌, ◌*◌, ◌≤◌, ◌<◌}
-use mathlib.Core.Path.{◌≡◌, refl, sym, ap, ◌∙◌}
+use mathlib.Core.Path.{◌≡◌, sym, ap, ◌∙◌}
 use mathlib.Core.List.{List, ◌++◌}
-use native.Mathlib.Nat.{le_of_eq}
+use native.Mathlib.Nat.{le_of_eq, suc-mul}
+use native.Mathlib.Numerals.{add-one}
 use native.Mathlib.Omega.{arith}
 use lib.ListN.{length, get_or, take, drop}
+use lib.Seq.{drop-drop}
 use lib.Ieee.{Float}
 use Rattle.lists.specs.Fold.{fold}
 use Rattle.lists.specs.Part.{part}
 use Rattle.lists.proofs.Filling.{length-build, build-same}
 use Rattle.lists.proofs.Folding.{fold_more, fold_same}
 use Rattle.lists.proofs.Joined.{Written, written-part, length-joined, part-joined}
-use Rattle.lists.proofs.Parts.{row_fits, row_in, part-lent, lent-long}
+use Rattle.lists.proofs.Parts.{row_in, lent-long}
 use Rattle.numbers.specs.Number.{◌*ᶠ◌}
 use Rattle.numbers.specs.Slice.{at}
 use Rattle.numbers.proofs.Products.{product-comm}
-use Rattle.matrix.specs.Product.{cell, sum_of, mat_vec_of, row_mat_of, transposed_of}
-use Rattle.matrix.proofs.Sums.{sum_same}
+use Rattle.matrix.specs.Product.{cell, sum_of, dot_of, mat_vec_of, row_mat_of, transposed_of}
+use Rattle.matrix.proofs.Sums.{sum_same, lent-row, dot-lent}
 use Rattle.matrix.proofs.Transposes.{length-transposed, transposed-whole, transposed}
-use Rattle.gate_set.specs.GateSet.{state_in, gate_in, through, measured, probabilities_of, columns_in, Lying, probabilities_by}
+use Rattle.gate_set.specs.GateSet.{state_in, effect_in, gate_in, through, measured, probabilities_of, columns_in, Lying, probabilities_by}
 
 pub length-columns-in : (d e gates : ℕ) (m : List Float) → length (columns_in d e gates m) ≡ gates * (d * d)
 unfolding columns_in
@@ -40,6 +42,13 @@ length-probabilities-by d e m columns sequence = length-measured d e m _
 pub effect-within : (d e k : ℕ) (m : List Float) → k < e → d + e * d ≤ length m → d + k * d + d ≤ length m
 effect-within d e k m h l = omega (arith, row_in k e d h)
 
+-- it was lent by its places s and t, as row k + 1 of the model, and measures x
+pub effect-measured : (d e k : ℕ) (m x : List Float) (s t : ℕ) → (s ≡ (k + 1) * d) × (t ≡ (k + 1) * d + d) → k < e → d + e * d ≤ length m
+    → dot_of (length (take (t - s) (drop s m))) (take (t - s) (drop s m)) x ≡ dot_of d (effect_in d m k) x
+effect-measured d e k m x s t (p, q) h l =
+    let z : (k + 1) * d ≡ d + k * d = rw add-one (omega (arith, suc-mul k d)) in
+    dot-lent m x s t d (omega arith) (omega (arith, effect-within d e k m h l)) ∙ ap (λ (j : ℕ). dot_of d (part j d m) x) (p ∙ z)
+
 -- a state was loaded, put through a sequence and measured
 pub run-measured : (d e : ℕ) (m columns : List Float) (sequence : List ℕ) (out s x y : List Float) → s ≡ state_in d m
     → x ≡ through (λ g y. row_mat_of d y (part (g * (d * d)) (d * d) columns)) sequence s → length x ≡ d → y ≡ measured (length x) e m x ++ drop e out
@@ -56,34 +65,27 @@ module _ (d : ℕ) (columns : List Float) (sequence : List ℕ) (k : ℕ) where
   abbrev start : ℕ
   start = get_or sequence k 0 * (d * d)
 
-  -- it was lent whole
-  pub gate-lent : Lying d columns sequence → k < length sequence → d * d ≤ length (take (start + d * d - start) (drop start columns))
-  gate-lent h l = le_of_eq (sym (lent-long start (start + d * d) (d * d) columns refl (h k l)))
+  -- it was lent whole, by its places a and b
+  pub gate-lent : (a b : ℕ) → (a ≡ start) × (b ≡ start + d * d) → Lying d columns sequence → k < length sequence → d * d ≤ length (take (b - a) (drop a columns))
+  gate-lent a b (p, q) h l = le_of_eq (sym (lent-long a b (d * d) columns (omega arith) (omega (arith, h k l))))
 
   -- one more gate
-  pub gate-more : (s x y : List Float) → x ≡ fold k (gate_by d columns sequence) s → y ≡ row_mat_of d x (take (start + d * d - start) (drop start columns)) → y ≡ fold (k + 1) (gate_by d columns sequence) s
-  gate-more s x y e f = fold_more (gate_by d columns sequence) k s x y e (f ∙ ap (row_mat_of d x) (part-lent start (start + d * d) (d * d) columns refl))
+  pub gate-more : (a b : ℕ) (s x y : List Float) → (a ≡ start) × (b ≡ start + d * d) → x ≡ fold k (gate_by d columns sequence) s → y ≡ row_mat_of d x (take (b - a) (drop a columns)) → y ≡ fold (k + 1) (gate_by d columns sequence) s
+  gate-more a b s x y p e f = fold_more (gate_by d columns sequence) k s x y e (f ∙ ap (row_mat_of d x) (lent-row columns (get_or sequence k 0) (d * d) a b p))
 
--- gate g of a model and its room, each lent whole
-pub gate-taken : (d e gates g : ℕ) (m : List Float) → g < gates → d + e * d + gates * (d * d) ≤ length m → d * d ≤ length (take (d + e * d + g * (d * d) + d * d - (d + e * d + g * (d * d))) (drop (d + e * d + g * (d * d)) m))
-gate-taken d e gates g m h l =
-    le_of_eq (sym (lent-long (d + e * d + g * (d * d)) (d + e * d + g * (d * d) + d * d) (d * d) m refl (omega (arith, row_in g gates (d * d) h))))
+-- gate g, lent from v, the gates of a model, by its places a and b
+module _ (d e g : ℕ) (m v : List Float) (q : v ≡ drop (d + e * d) m) (a b : ℕ) (p : (a ≡ g * (d * d)) × (b ≡ g * (d * d) + d * d)) where
+  gate-is : take (b - a) (drop a v) ≡ gate_in d e m g
+  gate-is = lent-row v g (d * d) a b p ∙ rw (q, drop-drop)
 
-pub gate-room : (d gates g : ℕ) (o out : List Float) → g < gates → gates * (d * d) ≤ length o → length out ≡ length o → d * d ≤ length (take (g * (d * d) + d * d - g * (d * d)) (drop (g * (d * d)) out))
-gate-room d gates g o out h l k = le_of_eq (sym (lent-long (g * (d * d)) (g * (d * d) + d * d) (d * d) out refl (omega (arith, row_fits g gates (d * d) (length o) h l))))
-
--- gate g was lent, transposed and put behind the gates before it
-pub gate-written : (d e gates g : ℕ) (m o out y : List Float) → g < gates → gates * (d * d) ≤ length o → length out ≡ length o → Written (λ g. transposed_of d (gate_in d e m g)) o g out
-    → y
-    ≡ transposed_of d (take (d + e * d + g * (d * d) + d * d - (d + e * d + g * (d * d))) (drop (d + e * d + g * (d * d)) m))
-    ++ drop (d * d) (take (g * (d * d) + d * d - g * (d * d)) (drop (g * (d * d)) out))
-    → Written (λ g. transposed_of d (gate_in d e m g)) o (g + 1) (take (g * (d * d)) out ++ (y ++ drop (g * (d * d) + d * d - g * (d * d)) (drop (g * (d * d)) out)))
-unfolding columns_in
-gate-written d e gates g m o out y h l k w f =
-    written-part (λ g. transposed_of d (gate_in d e m g)) o g (d * d) (g * (d * d)) (g * (d * d) + d * d) out y (length-columns-in d e g m) refl (length-transposed d (gate_in d e m g)) w
-    (f
-    ∙ transposed-whole d _ (take (g * (d * d) + d * d - g * (d * d)) (drop (g * (d * d)) out)) (lent-long (g * (d * d)) (g * (d * d) + d * d) (d * d) out refl (omega (arith, row_fits g gates (d * d) (length o) h l)))
-    ∙ ap (transposed_of d) (part-lent (d + e * d + g * (d * d)) (d + e * d + g * (d * d) + d * d) (d * d) m refl))
+  -- it was transposed and put behind the gates before it, at the places s and t
+  pub gate-written : (o out y : List Float) (s t : ℕ) → (s ≡ g * (d * d)) × (t ≡ g * (d * d) + d * d) → t ≤ length out → Written (λ g. transposed_of d (gate_in d e m g)) o g out
+      → y ≡ transposed_of d (take (b - a) (drop a v)) ++ drop (d * d) (take (t - s) (drop s out)) → Written (λ g. transposed_of d (gate_in d e m g)) o (g + 1) (take s out ++ (y ++ drop (t - s) (drop s out)))
+  unfolding columns_in
+  gate-written o out y s t (k, l) h w f =
+      let z : t ≡ s + d * d = omega arith in
+      written-part (λ g. transposed_of d (gate_in d e m g)) o g (d * d) s t out y (length-columns-in d e g m ∙ sym k) z (length-transposed d (gate_in d e m g)) w
+      (f ∙ transposed-whole d _ (take (t - s) (drop s out)) (lent-long s t (d * d) out z h) ∙ ap (transposed_of d) gate-is)
 
 by-columns : (d : ℕ) (x a : List Float) → row_mat_of d x (transposed_of d a) ≡ mat_vec_of d a x
 unfolding row_mat_of mat_vec_of

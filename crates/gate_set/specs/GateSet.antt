@@ -1,14 +1,12 @@
 -- Gate sets (Greenbaum 2015, "Introduction to quantum gate set tomography", section 2; the Rust's `GateSetModel`): a state of d numbers, e effects of d numbers, and
 -- gates, each a d by d matrix. A model's numbers lie in a list in the card's order, without the gates' names.
-use Rattle.std.specs.Prelude.{ℕ, ◌+◌, ◌*◌, ◌≤◌, ◌<◌, List, cond, ltb, length, get_or, take, Float}
+use Rattle.refusal.specs.Verdicts.{good, Verdict, first_of}
+use Rattle.std.specs.Prelude.{Err, ℕ, ◌+◌, ◌*◌, ◌≤◌, ◌<◌, List, cond, ltb, length, get_or, take, Float}
 use Rattle.lists.specs.Build.{build, joined}
 use Rattle.lists.specs.Fold.{fold}
 use Rattle.lists.specs.Part.{part}
 use Rattle.matrix.specs.Product.{dot_of, mat_vec_of, row_mat_of, transposed_of}
 use Rattle.refusal.specs.declared.Refusal.TheVariants.{UnknownGate}
-use Rattle.refusal.specs.declared.Verdict.{Verdict}
-use Rattle.refusal.specs.declared.Verdict.TheVariants.{Good, Refused}
-use Rattle.refusal.specs.Verdicts.{first_of}
 
 -- the state, effect k, and gate g by rows
 abbrev pub state_in : ℕ → List Float → List Float
@@ -34,10 +32,10 @@ probabilities_of d e m sequence = measured d e m (through (λ g. mat_vec_of d (g
 
 -- every gate of the sequence is there, or the first that is not
 abbrev pub present_gate : ℕ → ℕ → Verdict
-present_gate gates g = cond (ltb g gates) Good (Refused (UnknownGate g))
+present_gate gates g = cond (ltb g gates) good (Err (UnknownGate g))
 
 unfoldable pub present_of : ℕ → List ℕ → Verdict
-present_of gates sequence = fold (length sequence) (λ k v. first_of v (present_gate gates (get_or sequence k 0))) Good
+present_of gates sequence = fold (length sequence) (λ k v. first_of v (present_gate gates (get_or sequence k 0))) good
 
 -- ---- gates by columns, as the code keeps them
 

@@ -5,20 +5,19 @@
 ghost use Rattle.std.specs.Prelude.{◌≡◌, ◌++◌, ◌+◌, ◌*◌, ◌≤◌, ◌<◌, length, drop};
 ghost use Rattle.gate_set.specs.GateSet.{measured, present_of, columns_in, Lying, through_by, probabilities_by};
 
-use refusal::{Refusal, Verdict};
+use matrix::{by_size, row};
+use refusal::Refusal;
 
 // Whether every gate of the sequence is there, or the first that is not.
-pub fn check_sequence(sequence: &[usize], gates: usize) -> Verdict
+pub fn check_sequence(sequence: &[usize], gates: usize) -> Result<(), Refusal>
     ensures { result ≡ present_of gates sequence.now }
 {
-    let n = sequence.len();
-    for k in 0..n {
-        let g = sequence[k];
-        if gates <= g {
-            return Verdict::Refused(Refusal::UnknownGate(g as u64));
+    for g in sequence {
+        if gates <= *g {
+            return Err(Refusal::UnknownGate(*g as u64));
         }
     }
-    Verdict::Good
+    Ok(())
 }
 
 // All gates of a model by columns, at the front of `out`.
@@ -27,13 +26,9 @@ pub fn gates_by_columns(model: &[f64], d: usize, e: usize, gates: usize, out: &m
     ensures { out.new ≡ columns_in d e gates model.now ++ drop (gates * (d * d)) out.old }
 {
     let m = d * d;
-    let first = d + e * d;
+    let gates_at = &model[d + e * d..];
     for g in 0..gates {
-        let start = g * m;
-        let end = start + m;
-        let from = first + start;
-        let to = from + m;
-        matrix::transpose(&model[from..to], d, &mut out[start..end]);
+        matrix::transpose(&gates_at[row(g, m)], d, &mut out[row(g, m)]);
     }
 }
 
@@ -42,12 +37,8 @@ fn run_of(columns: &[f64], d: usize, sequence: &[usize], x: &mut [f64])
     requires { (d ≤ 16) × (length x.old ≡ d) × Lying d columns.now sequence.now }
     ensures { x.new ≡ through_by d columns.now sequence.now x.old }
 {
-    let n = sequence.len();
-    let m = d * d;
-    for k in 0..n {
-        let start = sequence[k] * m;
-        let end = start + m;
-        matrix::row_times(x, &columns[start..end], d);
+    for g in sequence {
+        matrix::row_times(x, &columns[row(*g, d * d)], d);
     }
 }
 
@@ -56,46 +47,17 @@ fn run(columns: &[f64], d: usize, sequence: &[usize], x: &mut [f64])
     requires { (d ≤ 16) × (length x.old ≡ d) × Lying d columns.now sequence.now }
     ensures { x.new ≡ through_by d columns.now sequence.now x.old }
 {
-    if d == 16 {
-        run_of(columns, 16, sequence, x);
-        return;
-    }
-    if d == 4 {
-        run_of(columns, 4, sequence, x);
-        return;
-    }
-    run_of(columns, d, sequence, x);
+    by_size(d, x, |d, x| run_of(columns, d, sequence, x));
 }
 
-// What the effects give of the state x.
+// What the effects give of the state x. They lie behind the state, as rows of its length.
 fn measure(model: &[f64], x: &[f64], e: usize, out: &mut [f64])
     requires { (length x.now ≤ 16) × (e ≤ 16) × (length x.now + e * length x.now ≤ length model.now) × (e ≤ length out.old) }
     ensures { out.new ≡ measured (length x.now) e model.now x.now ++ drop e out.old }
 {
-    let d = x.len();
-    for k in 0..e {
-        let start = d + k * d;
-        let end = start + d;
-        out[k] = matrix::dot(&model[start..end], x);
+    for (k, p) in out[..e].iter_mut().enumerate() {
+        *p = matrix::dot(&model[row(k + 1, x.len())], x);
     }
-}
-
-// The probabilities of a sequence, with room for a state.
-fn probabilities_of(
-    model: &[f64],
-    columns: &[f64],
-    sequence: &[usize],
-    x: &mut [f64],
-    e: usize,
-    out: &mut [f64],
-)
-    requires { (length x.old ≤ 16) × (e ≤ 16) × (length x.old + e * length x.old ≤ length model.now) × (e ≤ length out.old) × Lying (length x.old) columns.now sequence.now }
-    ensures { out.new ≡ probabilities_by (length x.old) e model.now columns.now sequence.now ++ drop e out.old }
-{
-    let d = x.len();
-    matrix::put_row(x, model);
-    run(columns, d, sequence, x);
-    measure(model, x, e, out);
 }
 
 // The probabilities of a sequence, at the front of `out`; the state and the effects stand at the front of `model`.
@@ -110,8 +72,11 @@ pub fn probabilities(
     requires { (d ≤ 16) × (e ≤ 16) × (d + e * d ≤ length model.now) × (e ≤ length out.old) × Lying d columns.now sequence.now }
     ensures { out.new ≡ probabilities_by d e model.now columns.now sequence.now ++ drop e out.old }
 {
-    let mut x = [0.0f64; 16];
-    probabilities_of(model, columns, sequence, &mut x[..d], e, out);
+    let mut x = [0.0; 16];
+    let x = &mut x[..d];
+    matrix::put_row(x, model);
+    run(columns, d, sequence, x);
+    measure(model, x, e, out);
 }
 
 // Two states, each through the sequence by gates of its own. The sequence is read once, and the processor works on one state while it waits for the other.
@@ -126,17 +91,14 @@ fn run_both_of(
     requires { (d ≤ 16) × (length x.old ≡ d) × (length y.old ≡ d) × Lying d columns.now sequence.now × Lying d others.now sequence.now }
     ensures { (x.new ≡ through_by d columns.now sequence.now x.old) × (y.new ≡ through_by d others.now sequence.now y.old) }
 {
-    let n = sequence.len();
-    let m = d * d;
-    for k in 0..n {
-        let from = sequence[k] * m;
-        let to = from + m;
-        matrix::row_times(x, &columns[from..to], d);
-        matrix::row_times(y, &others[from..to], d);
+    for g in sequence {
+        let places = row(*g, d * d);
+        matrix::row_times(x, &columns[places.start..places.end], d);
+        matrix::row_times(y, &others[places], d);
     }
 }
 
-// The same, by size.
+// The same, by size: `by_size` lends one slice, and here are two.
 fn run_both(
     columns: &[f64],
     others: &[f64],
@@ -159,30 +121,6 @@ fn run_both(
     run_both_of(columns, others, d, sequence, x, y);
 }
 
-// The probabilities of a sequence under two models, with room for two states.
-fn probabilities_both_of(
-    model: &[f64],
-    columns: &[f64],
-    other: &[f64],
-    others: &[f64],
-    sequence: &[usize],
-    d: usize,
-    x: &mut [f64],
-    y: &mut [f64],
-    e: usize,
-    out: &mut [f64],
-    also: &mut [f64],
-)
-    requires { (d ≤ 16) × (e ≤ 16) × (d + e * d ≤ length model.now) × (d + e * d ≤ length other.now) × (e ≤ length out.old) × (e ≤ length also.old) × Lying d columns.now sequence.now × Lying d others.now sequence.now × (length x.old ≡ d) × (length y.old ≡ d) }
-    ensures { (out.new ≡ probabilities_by d e model.now columns.now sequence.now ++ drop e out.old) × (also.new ≡ probabilities_by d e other.now others.now sequence.now ++ drop e also.old) }
-{
-    matrix::put_row(x, model);
-    matrix::put_row(y, other);
-    run_both(columns, others, d, sequence, x, y);
-    measure(model, x, e, out);
-    measure(other, y, e, also);
-}
-
 // The probabilities of a sequence under two models, at the fronts of `out` and `also`.
 pub fn probabilities_both(
     model: &[f64],
@@ -198,19 +136,13 @@ pub fn probabilities_both(
     requires { (d ≤ 16) × (e ≤ 16) × (d + e * d ≤ length model.now) × (d + e * d ≤ length other.now) × (e ≤ length out.old) × (e ≤ length also.old) × Lying d columns.now sequence.now × Lying d others.now sequence.now }
     ensures { (out.new ≡ probabilities_by d e model.now columns.now sequence.now ++ drop e out.old) × (also.new ≡ probabilities_by d e other.now others.now sequence.now ++ drop e also.old) }
 {
-    let mut x = [0.0f64; 16];
-    let mut y = [0.0f64; 16];
-    probabilities_both_of(
-        model,
-        columns,
-        other,
-        others,
-        sequence,
-        d,
-        &mut x[..d],
-        &mut y[..d],
-        e,
-        out,
-        also,
-    );
+    let mut x = [0.0; 16];
+    let mut y = [0.0; 16];
+    let x = &mut x[..d];
+    let y = &mut y[..d];
+    matrix::put_row(x, model);
+    matrix::put_row(y, other);
+    run_both(columns, others, d, sequence, x, y);
+    measure(model, x, e, out);
+    measure(other, y, e, also);
 }

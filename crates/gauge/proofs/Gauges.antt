@@ -1,4 +1,6 @@
 -- The tests of a transform, taken apart in their order, and the parts of the new model put together. Assumes nothing.
+use Rattle.std.proofs.Common.{Result, Ok, Err, is_ok, IsErrAnd, MatchResult}
+use Rattle.refusal.specs.Verdicts.{good, Verdict, first_of, after, finite_or}
 use Prim.Native.Nat.{ℕ, ◌+◌, ◌-◌, ◌*◌}
 use mathlib.Core.Path.{◌≡◌, refl, sym, ap, ap₂, ◌∙◌}
 use mathlib.Core.Bool.{Bool, true, false, cond, not}
@@ -11,9 +13,6 @@ use Rattle.lists.proofs.Joined.{over-onto}
 use Rattle.numbers.specs.Slice.{all_finite}
 use Rattle.refusal.specs.declared.Refusal.{Refusal}
 use Rattle.refusal.specs.declared.Refusal.TheVariants.{NonFinite, SingularGaugeTransform}
-use Rattle.refusal.specs.declared.Verdict.{Verdict}
-use Rattle.refusal.specs.declared.Verdict.TheVariants.{Good, Refused}
-use Rattle.refusal.specs.Verdicts.{first_of, after, finite_or}
 use Rattle.refusal.proofs.Verdicts.{never-good, both-good}
 use Rattle.inversion.specs.Inversion.{invertible, inverse_of}
 use Rattle.inversion.proofs.Reductions.{length-inverse}
@@ -25,7 +24,7 @@ use Rattle.gauge.proofs.Lengths.{state-in-length, vectors-length, transformed-le
 
 module _ (d : ℕ) (t : List Float) where
   module _ (f : all_finite t ≡ false) where
-    pub not_finite : Refused NonFinite ≡ inverted_of d t
+    pub not_finite : Err NonFinite ≡ inverted_of d t
     unfolding inverted_of
     not_finite = yes _ (ap not f)
 
@@ -34,24 +33,24 @@ module _ (d : ℕ) (t : List Float) where
     none-computed = yes _ (ap not f)
 
   module _ (f : all_finite t ≡ true) where
-    pub regular : invertible d (threshold_of d) t ≡ true → Good ≡ inverted_of d t
+    -- whether it has an inverse, as a call answered, with a refusal in place of the error
+    pub given : {E : Type 0} {P : E → Refusal → Type 0} (i : Result Unit E) (v : Verdict) → is_ok i ≡ invertible d (threshold_of d) t
+        → MatchResult i (λ x. v ≡ Ok x) (λ e. IsErrAnd v (P e)) → ((e : E) (r : Refusal) → P e r → r ≡ SingularGaugeTransform) → v ≡ inverted_of d t
     unfolding inverted_of
-    regular e = no _ (ap not f) (yes _ e)
-
-    pub singular : invertible d (threshold_of d) t ≡ false → Refused SingularGaugeTransform ≡ inverted_of d t
-    unfolding inverted_of
-    singular e = no _ (ap not f) (no _ e refl)
+    given (Ok x) v e m p = m ∙ no _ (ap not f) (yes _ (sym e))
+    given (Err x) (Ok y) e m p = absurd m
+    given (Err x) (Err r) e m p = ap Err (p x r m) ∙ no _ (ap not f) (no _ (sym e) refl)
 
     pub computed : inverse_of d (threshold_of d) t ≡ inverse_in d t
     unfolding inverse_in
     computed = no _ (ap not f) refl
 
   -- a good transform has an inverse of as many numbers
-  pub inverse-length : Good ≡ inverted_of d t → length (inverse_in d t) ≡ d * d
+  pub inverse-length : good ≡ inverted_of d t → length (inverse_in d t) ≡ d * d
   unfolding inverted_of inverse_in
   inverse-length e = go (all_finite t) (invertible d (threshold_of d) t) refl e
     where
-      go : (a b : Bool) → invertible d (threshold_of d) t ≡ b → Good ≡ cond (not a) (Refused NonFinite) (cond b Good (Refused SingularGaugeTransform)) → length (cond (not a) [] (inverse_of d (threshold_of d) t)) ≡ d * d
+      go : (a b : Bool) → invertible d (threshold_of d) t ≡ b → good ≡ cond (not a) (Err NonFinite) (cond b good (Err SingularGaugeTransform)) → length (cond (not a) [] (inverse_of d (threshold_of d) t)) ≡ d * d
       go true true q e = length-inverse d (threshold_of d) t q
       go true false q e = absurd (never-good e)
       go false b q e = absurd (never-good e)
@@ -72,7 +71,7 @@ parts-written t i s h d v e f l a b x y q p k m aw xw bw yw =
 
 module _ (s : List ℕ) (h : Header) where
   -- the verdict on the transform, as a call gave it
-  pub transform-refused : (w : Verdict) (r : Refusal) → w ≡ inverted_of h.dimension (transform_of s h) → w ≡ Refused r → (Refused r ≡ gauged_of s h) × ([] ≡ gauged_numbers s h)
+  pub transform-refused : (w : Verdict) (r : Refusal) → w ≡ inverted_of h.dimension (transform_of s h) → w ≡ Err r → (Err r ≡ gauged_of s h) × ([] ≡ gauged_numbers s h)
   unfolding gauged_of gauged_numbers
   transform-refused w r e f = (ap (λ (x : Verdict). first_of x (finite_or NonFinite (new_model s h))) (sym f ∙ e), ap (λ (x : Verdict). after x (λ _. []) (new_model s h)) (sym f ∙ e))
 
@@ -81,7 +80,7 @@ module _ (s : List ℕ) (h : Header) where
   model-length = transformed-length s h _ _
 
   -- where all is good the new model was computed
-  pub good-model : Good ≡ gauged_of s h → gauged_numbers s h ≡ new_model s h
+  pub good-model : good ≡ gauged_of s h → gauged_numbers s h ≡ new_model s h
   unfolding gauged_of gauged_numbers
   good-model e =
       let b = both-good (inverted_of h.dimension (transform_of s h)) (finite_or NonFinite (new_model s h)) e in
@@ -92,7 +91,7 @@ module _ (s : List ℕ) (h : Header) where
     unfolding new_model
     model_is = ap₂ (λ (t i : List Float). transformed t i s h) e f
 
-    pub transform-good : (w v : Verdict) (l m : List Float) → w ≡ inverted_of h.dimension (transform_of s h) → w ≡ Good → v ≡ finite_or NonFinite (transformed t i s h) → m ≡ over (transformed t i s h) l
+    pub transform-good : (w v : Verdict) (l m : List Float) → w ≡ inverted_of h.dimension (transform_of s h) → w ≡ good → v ≡ finite_or NonFinite (transformed t i s h) → m ≡ over (transformed t i s h) l
         → (v ≡ gauged_of s h) × (m ≡ over (gauged_numbers s h) l)
     unfolding gauged_of gauged_numbers
     transform-good w v l m a g b o = (

@@ -1,15 +1,13 @@
 -- A gauge transform S of a gate set (document 01, kind 6; the Rust's `gauge_transform`): the state r becomes S r, each effect E (a row) E S⁻¹, each gate G S G S⁻¹, so that all
 -- probabilities stay what they are.
-use Rattle.std.specs.Prelude.{ℕ, cond, not, List, [], ◌++◌, pos, Float}
+use Rattle.refusal.specs.Verdicts.{good, Verdict, first_of, after, finite_or}
+use Rattle.std.specs.Prelude.{Err, ℕ, cond, not, List, [], ◌++◌, pos, Float}
 use Rattle.std.specs.Float.Ieee.{of_int}
 use Rattle.std.specs.Float.{binary64}
 use Rattle.lists.specs.Build.{joined}
 use Rattle.numbers.specs.Number.{number, ◌*ᶠ◌}
 use Rattle.numbers.specs.Slice.{all_finite}
 use Rattle.refusal.specs.declared.Refusal.TheVariants.{NonFinite, SingularGaugeTransform}
-use Rattle.refusal.specs.declared.Verdict.{Verdict}
-use Rattle.refusal.specs.declared.Verdict.TheVariants.{Good, Refused}
-use Rattle.refusal.specs.Verdicts.{first_of, after, finite_or}
 use Rattle.matrix.specs.Product.{mat_vec_of, row_mat_of, mat_mul_of}
 use Rattle.inversion.specs.Inversion.{invertible, inverse_of}
 use Rattle.card_layout.specs.declared.Header.{Header}
@@ -22,9 +20,9 @@ threshold_of d = number 0x4050000000000000 *ᶠ number 0x3cb0000000000000 *ᶠ o
 -- the transform is tested, and then inverted
 unfoldable pub inverted_of : ℕ → List Float → Verdict
 inverted_of d t =
-    cond (not (all_finite t)) (Refused NonFinite)
-    (cond (invertible d (threshold_of d) t) Good
-    (Refused SingularGaugeTransform))
+    cond (not (all_finite t)) (Err NonFinite)
+    (cond (invertible d (threshold_of d) t) good
+    (Err SingularGaugeTransform))
 
 -- its inverse; none where it is refused
 unfoldable pub inverse_in : ℕ → List Float → List Float

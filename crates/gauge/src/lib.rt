@@ -10,9 +10,9 @@ ghost use Rattle.refusal.specs.declared.Refusal.TheVariants.{NonFinite};
 ghost use Rattle.gauge.specs.Gauge.{threshold_of, inverted_of, inverse_in, new_state, new_effect, new_gate, transformed, gauged_of, gauged_numbers};
 
 use card_layout::Header;
-use card_parts::{load_effect, load_gate, load_state, load_transform};
+use card_parts::Card;
 use model_words::{model_numbers, vector_numbers};
-use refusal::{Refusal, Verdict};
+use refusal::Refusal;
 use sizes::square;
 
 // The Rust's threshold for pivots in `invert_real`.
@@ -24,152 +24,136 @@ fn threshold(d: usize) -> f64
     64.0 * 2.220446049250313e-16 * scale
 }
 
-// Room for a vector and for a matrix; the `ensures` gives the length, which lending a part needs.
-fn vector_room() -> [f64; 16]
-    ensures { 16 ≡ length result }
-{
-    [0.0; 16]
-}
-
-fn matrix_room() -> [f64; 256]
-    ensures { 256 ≡ length result }
-{
-    [0.0; 256]
-}
-
 // The inverse of a transform, once it is tested.
-fn invert_transform(transform: &[f64], d: usize, inverse: &mut [f64]) -> Verdict
+fn invert_transform(transform: &[f64], d: usize, inverse: &mut [f64]) -> Result<(), Refusal>
     requires { (d ≤ 16) × (length transform.now ≡ d * d) × (d * d ≤ length inverse.old) }
     ensures { (result ≡ inverted_of d transform.now) × (inverse.new ≡ over (inverse_in d transform.now) inverse.old) }
 {
     if !numbers::all_finite(transform) {
-        return Verdict::Refused(Refusal::NonFinite);
+        return Err(Refusal::NonFinite);
     }
-    let found = inversion::invert(transform, d, threshold(d), inverse);
-    if found {
-        return Verdict::Good;
+    inversion::invert(transform, d, threshold(d), inverse).map_err(
+        |_| Refusal::SingularGaugeTransform,
+    )
+}
+
+// A transform of a card's model, and its inverse.
+#[derive(Clone, Copy)]
+struct Gauge<'a> {
+    card: Card<'a>,
+    matrix: &'a [f64],
+    inverse: &'a [f64],
+    ghost whole: { card.header.dimension * card.header.dimension ≤ length matrix.now },
+    ghost whole_inverse: { card.header.dimension * card.header.dimension ≤ length inverse.now },
+}
+
+impl<'a> Gauge<'a> {
+    fn state(&self, out: &mut [f64])
+        requires { (5 ≤ self.now.card.header.kind) × (self.now.card.header.dimension ≤ length out.old) }
+        ensures { out.new ≡ over (new_state self.now.matrix.now self.now.card.bytes.now self.now.card.header) out.old }
+    {
+        let d = self.card.header.dimension;
+        let mut state = [0.0; 16];
+        self.card.load_state(&mut state);
+        matrix::mat_vec(self.matrix, &state[..d], d, out);
     }
-    Verdict::Refused(Refusal::SingularGaugeTransform)
-}
 
-fn transform_state(card: &[u8], h: Header, transform: &[f64], out: &mut [f64])
-    requires { Shaped card.now h × (5 ≤ h.kind) × (h.dimension * h.dimension ≤ length transform.now) × (h.dimension ≤ length out.old) }
-    ensures { out.new ≡ over (new_state transform.now card.now h) out.old }
-{
-    let d = h.dimension;
-    let mut state = vector_room();
-    load_state(card, h, &mut state);
-    matrix::mat_vec(transform, &state[..d], d, out);
-}
-
-fn transform_effect(card: &[u8], h: Header, k: usize, inverse: &[f64], out: &mut [f64])
-    requires { Shaped card.now h × (k < h.effects) × (h.dimension * h.dimension ≤ length inverse.now) × (h.dimension ≤ length out.old) }
-    ensures { out.new ≡ over (new_effect inverse.now card.now h k) out.old }
-{
-    let d = h.dimension;
-    let mut effect = vector_room();
-    load_effect(card, h, k, &mut effect);
-    matrix::row_mat(&effect[..d], inverse, d, out);
-}
-
-fn transform_effects(card: &[u8], h: Header, inverse: &[f64], out: &mut [f64])
-    requires { Shaped card.now h × (h.dimension * h.dimension ≤ length inverse.now) × (h.effects * h.dimension ≤ length out.old) }
-    ensures { out.new ≡ over (joined h.effects (new_effect inverse.now card.now h)) out.old }
-{
-    let count = h.effects;
-    let d = h.dimension;
-    for k in 0..count {
-        let start = k * d;
-        transform_effect(card, h, k, inverse, &mut out[start..]);
+    fn effect(&self, k: usize, out: &mut [f64])
+        requires { (k < self.now.card.header.effects) × (self.now.card.header.dimension ≤ length out.old) }
+        ensures { out.new ≡ over (new_effect self.now.inverse.now self.now.card.bytes.now self.now.card.header k) out.old }
+    {
+        let d = self.card.header.dimension;
+        let mut effect = [0.0; 16];
+        self.card.load_effect(k, &mut effect);
+        matrix::row_mat(&effect[..d], self.inverse, d, out);
     }
-}
 
-// The gate is loaded where the result goes; `left` is room for the first product.
-fn transform_gate<'a>(
-    card: &[u8],
-    h: Header,
-    g: usize,
-    transform: &'a [f64],
-    inverse: &'a [f64],
-    left: &mut [f64],
-    out: &mut [f64],
-)
-    requires { Shaped card.now h × (g < h.gates) × (h.dimension * h.dimension ≤ length transform.now) × (h.dimension * h.dimension ≤ length inverse.now) × (h.dimension * h.dimension ≤ length left.old) × (h.dimension * h.dimension ≤ length out.old) }
-    ensures { out.new ≡ over (new_gate transform.now inverse.now card.now h g) out.old }
-{
-    let d = h.dimension;
-    let m = square(d);
-    load_gate(card, h, g, out);
-    matrix::mat_mul(transform, &out[..m], d, left);
-    matrix::mat_mul(&left[..m], inverse, d, out);
-}
-
-fn transform_gates<'a>(
-    card: &[u8],
-    h: Header,
-    transform: &'a [f64],
-    inverse: &'a [f64],
-    out: &mut [f64],
-)
-    requires { Shaped card.now h × (h.dimension * h.dimension ≤ length transform.now) × (h.dimension * h.dimension ≤ length inverse.now) × (h.gates * (h.dimension * h.dimension) ≤ length out.old) }
-    ensures { out.new ≡ over (joined h.gates (new_gate transform.now inverse.now card.now h)) out.old }
-{
-    let count = h.gates;
-    let m = square(h.dimension);
-    let mut left = matrix_room();
-    for g in 0..count {
-        let start = g * m;
-        transform_gate(card, h, g, transform, inverse, &mut left, &mut out[start..]);
+    fn effects(&self, out: &mut [f64])
+        requires { self.now.card.header.effects * self.now.card.header.dimension ≤ length out.old }
+        ensures { out.new ≡ over (joined self.now.card.header.effects (new_effect self.now.inverse.now self.now.card.bytes.now self.now.card.header)) out.old }
+    {
+        for k in 0..self.card.header.effects {
+            let start = k * self.card.header.dimension;
+            self.effect(k, &mut out[start..]);
+        }
     }
-}
 
-// All numbers of the model, one part after the other.
-fn transform_model<'a>(
-    card: &[u8],
-    h: Header,
-    transform: &'a [f64],
-    inverse: &'a [f64],
-    work: &mut [f64],
-)
-    requires { Shaped card.now h × (5 ≤ h.kind) × (h.dimension * h.dimension ≤ length transform.now) × (h.dimension * h.dimension ≤ length inverse.now) × (model_numbers h ≤ length work.old) }
-    ensures { work.new ≡ over (transformed transform.now inverse.now card.now h) work.old }
-{
-    let d = h.dimension;
-    let v = vector_numbers(h);
-    transform_state(card, h, transform, work);
-    transform_effects(card, h, inverse, &mut work[d..]);
-    transform_gates(card, h, transform, inverse, &mut work[v..]);
-}
+    // The gate is loaded where the result goes; `left` is room for the first product.
+    fn gate(&self, g: usize, left: &mut [f64], out: &mut [f64])
+        requires { (g < self.now.card.header.gates) × (self.now.card.header.dimension * self.now.card.header.dimension ≤ length left.old) × (self.now.card.header.dimension * self.now.card.header.dimension ≤ length out.old) }
+        ensures { out.new ≡ over (new_gate self.now.matrix.now self.now.inverse.now self.now.card.bytes.now self.now.card.header g) out.old }
+    {
+        let d = self.card.header.dimension;
+        let m = square(d);
+        self.card.load_gate(g, out);
+        matrix::mat_mul(self.matrix, &out[..m], d, left);
+        matrix::mat_mul(&left[..m], self.inverse, d, out);
+    }
 
-// The numbers of the new model at the front of the work slice, and whether they are finite.
-fn transform_tested<'a>(
-    card: &[u8],
-    h: Header,
-    transform: &'a [f64],
-    inverse: &'a [f64],
-    work: &mut [f64],
-) -> Verdict
-    requires { Shaped card.now h × (5 ≤ h.kind) × (h.dimension * h.dimension ≤ length transform.now) × (h.dimension * h.dimension ≤ length inverse.now) × (model_numbers h ≤ length work.old) }
-    ensures { (result ≡ finite_or NonFinite (transformed transform.now inverse.now card.now h)) × (work.new ≡ over (transformed transform.now inverse.now card.now h) work.old) }
-{
-    let count = model_numbers(h);
-    transform_model(card, h, transform, inverse, work);
-    refusal::finite_or(Refusal::NonFinite, &work[..count])
+    fn gates(&self, out: &mut [f64])
+        requires { self.now.card.header.gates * (self.now.card.header.dimension * self.now.card.header.dimension) ≤ length out.old }
+        ensures { out.new ≡ over (joined self.now.card.header.gates (new_gate self.now.matrix.now self.now.inverse.now self.now.card.bytes.now self.now.card.header)) out.old }
+    {
+        let m = square(self.card.header.dimension);
+        let mut left = [0.0; 256];
+        for g in 0..self.card.header.gates {
+            let start = g * m;
+            self.gate(g, &mut left, &mut out[start..]);
+        }
+    }
+
+    // All numbers of the new model, one part after the other.
+    fn model(&self, work: &mut [f64])
+        requires { (5 ≤ self.now.card.header.kind) × (model_numbers self.now.card.header ≤ length work.old) }
+        ensures { work.new ≡ over (transformed self.now.matrix.now self.now.inverse.now self.now.card.bytes.now self.now.card.header) work.old }
+    {
+        let d = self.card.header.dimension;
+        let v = vector_numbers(self.card.header);
+        self.state(work);
+        self.effects(&mut work[d..]);
+        self.gates(&mut work[v..]);
+    }
+
+    // The numbers of the new model at the front of the work slice, and whether they are finite.
+    fn tested(&self, work: &mut [f64]) -> Result<(), Refusal>
+        requires { (5 ≤ self.now.card.header.kind) × (model_numbers self.now.card.header ≤ length work.old) }
+        ensures { (result ≡ finite_or NonFinite (transformed self.now.matrix.now self.now.inverse.now self.now.card.bytes.now self.now.card.header)) × (work.new ≡ over (transformed self.now.matrix.now self.now.inverse.now self.now.card.bytes.now self.now.card.header) work.old) }
+    {
+        let count = model_numbers(self.card.header);
+        self.model(work);
+        refusal::finite_or(Refusal::NonFinite, &work[..count])
+    }
 }
 
 // The Rust's `gauge_transform`, on a card whose model is good.
-pub fn gauge_transform(card: &[u8], h: Header, work: &mut [f64]) -> Verdict
+pub fn transform(card: &Card<'_>, work: &mut [f64]) -> Result<(), Refusal>
+    requires { (card.now.header.kind ≡ 6) × (model_numbers card.now.header ≤ length work.old) }
+    ensures { (result ≡ gauged_of card.now.bytes.now card.now.header) × (work.new ≡ over (gauged_numbers card.now.bytes.now card.now.header) work.old) }
+{
+    let d = card.header.dimension;
+    let m = square(d);
+    let mut matrix = [0.0; 256];
+    let mut inverse = [0.0; 256];
+    card.load_transform(&mut matrix);
+    invert_transform(&matrix[..m], d, &mut inverse)?;
+    let gauge = Gauge {
+        card: *card,
+        matrix: &matrix[..m],
+        inverse: &inverse[..m],
+    };
+    gauge.tested(work)
+}
+
+// The same, of a card by its bytes and its header.
+pub fn gauge_transform(card: &[u8], h: Header, work: &mut [f64]) -> Result<(), Refusal>
     requires { Shaped card.now h × (h.kind ≡ 6) × (model_numbers h ≤ length work.old) }
     ensures { (result ≡ gauged_of card.now h) × (work.new ≡ over (gauged_numbers card.now h) work.old) }
 {
-    let d = h.dimension;
-    let m = square(d);
-    let mut transform = matrix_room();
-    let mut inverse = matrix_room();
-    load_transform(card, h, &mut transform);
-    let found = invert_transform(&transform[..m], d, &mut inverse);
-    match found {
-        Verdict::Refused(r) => Verdict::Refused(r),
-        Verdict::Good => transform_tested(card, h, &transform[..m], &inverse[..m], work),
-    }
+    transform(
+        &Card {
+            bytes: card,
+            header: h,
+        },
+        work,
+    )
 }

@@ -1,10 +1,13 @@
 -- No sheet of a gate set is refused by 16, and a refused one writes no word. Assumes nothing.
+use Rattle.std.proofs.Common.{None, Some, Err, Ok}
+use Rattle.refusal.specs.Verdicts.{good, Verdict, after}
+use Rattle.std.specs.Prelude.{◌==◌, slice_index}
 use Prim.Native.Nat.{ℕ}
 use mathlib.Core.Path.{◌≡◌, refl}
 use mathlib.Core.Bool.{Bool, true, false, cond}
 use mathlib.Core.List.{List}
 use borrow.Author.Tests.{eqb-false}
-use lib.Dec.{eqb, ltb}
+use lib.Dec.{ltb}
 use lib.ListN.{get_or}
 use lib.Ieee.{Float, lt, eq}
 use Rattle.lists.proofs.Folding.{fold-keeps}
@@ -13,10 +16,7 @@ use Rattle.numbers.specs.Slice.{number_at, at}
 use Rattle.rounding.specs.Units.{whole}
 use Rattle.logarithm.specs.Steps.{ln}
 use Rattle.refusal.specs.declared.Refusal.TheVariants.{InvalidTolerance, UnknownGate, InvalidProbabilities}
-use Rattle.refusal.specs.declared.Verdict.{Verdict}
-use Rattle.refusal.specs.declared.Verdict.TheVariants as verdict
 use Rattle.refusal.specs.Values.{code_of}
-use Rattle.refusal.specs.Verdicts.{after}
 use Rattle.refusal.proofs.Lower.{Lower, lower-good, lower-test, lower-each}
 use Rattle.card_layout.specs.declared.Header.{Header}
 use Rattle.card_parts.specs.Parts.{sequence_of}
@@ -25,11 +25,8 @@ use Rattle.model.proofs.Refusals.{lower-model}
 use Rattle.model_words.specs.Words.{numbers_of}
 use Rattle.gate_set.specs.GateSet.{present_of, probabilities_of}
 use Rattle.likelihood.specs.declared.Diagnostics.{Diagnostics}
-use Rattle.likelihood.specs.declared.Likelihood.{Likelihood}
-use Rattle.likelihood.specs.declared.Likelihood.TheVariants.{Fit, Failed, Refused}
-use Rattle.likelihood.specs.declared.Total.{Total}
-use Rattle.likelihood.specs.declared.Total.TheVariants.{Counted, TooMany}
-use Rattle.likelihood.specs.Multinomial.{clamped, failing, total_of, counted_of, with_term, onward, with_terms, with_total, with_record}
+use Rattle.likelihood.specs.declared.Unfit.TheVariants.{Probabilities, Refused}
+use Rattle.likelihood.specs.Multinomial.{Likelihood, Total, clamped, failing, total_of, counted_of, with_term, onward, with_terms, with_total, with_record}
 use Rattle.diagnostics.specs.Diagnostics.{counts_of, no_diagnostics, record_onward, likelihood_by}
 use Rattle.outcome.specs.declared.Answer.TheVariants as answer
 use Rattle.outcome.specs.Outcome.{Outcome, refused}
@@ -38,17 +35,17 @@ use Rattle.gst_sheets.specs.Sheets.{likelihood_sheet, tolerance_sheet, diagnosti
 
 -- a likelihood that is not refused by 16
 abbrev pub Below : Likelihood → Type 0
-Below (Fit d) = Unit {0}
-Below Failed = Unit {0}
-Below (Refused r) = code_of r ≡ 16 → ⊥
+Below (Ok d) = Unit {0}
+Below (Err Probabilities) = Unit {0}
+Below (Err (Refused r)) = code_of r ≡ 16 → ⊥
 
 pub record Low (l : Likelihood) : Type 0 where
   pub low : Below l
 
-fits : {d : Diagnostics} → Low (Fit d)
+fits : {d : Diagnostics} → Low (Ok d)
 fits = record { low = tt }
 
-fails : Low Failed
+fails : Low (Err Probabilities)
 fails = record { low = tt }
 
 low-either : (b : Bool) {x y : Likelihood} → Low x → Low y → Low (cond b x y)
@@ -56,14 +53,13 @@ low-either true p q = p
 low-either false p q = q
 
 low-onward : (f : Diagnostics → Likelihood) (l : Likelihood) → ((d : Diagnostics) → Low (f d)) → Low l → Low (onward f l)
-low-onward f (Fit d) h p = h d
-low-onward f Failed h p = p
-low-onward f (Refused r) h p = p
+low-onward f (Ok d) h p = h d
+low-onward f (Err u) h p = p
 
 -- what comes after a verdict that is not 16
-low-after : (v : Verdict) {l : Likelihood} → Lower v → Low l → Low (after v Refused l)
-low-after verdict.Good p q = q
-low-after (verdict.Refused r) p q = record { low = p.low r refl }
+low-after : (v : Verdict) {l : Likelihood} → Lower v → Low l → Low (after v (λ r. Err (Refused r)) l)
+low-after (Ok _) p q = q
+low-after (Err r) p q = record { low = p.low r refl }
 
 lower-present : (gates : ℕ) (sequence : List ℕ) → Lower (present_of gates sequence)
 unfolding present_of
@@ -76,11 +72,11 @@ module _ (log : Float → Float) (deviance : Bool) where
 
   low-terms : (t : Float) (counts : List ℕ) (ps : List Float) (d : Diagnostics) → Low (with_terms log deviance t counts ps d)
   unfolding with_terms
-  low-terms t counts ps d = fold-keeps _ Low _ (Fit d) fits (λ k l _ p. low-onward _ l (low-term t (whole (get_or counts k 0)) (clamped (at ps k))) p)
+  low-terms t counts ps d = fold-keeps _ Low _ (Ok d) fits (λ k l _ p. low-onward _ l (low-term t (whole (slice_index counts k)) (clamped (at ps k))) p)
 
   low-total : (t : Total) (counts : List ℕ) (ps : List Float) (d : Diagnostics) → Low (with_total log deviance t counts ps d)
-  low-total TooMany counts ps d = record { low = eqb-false 9 16 refl }
-  low-total (Counted t) counts ps d = low-either (eqb t 0) fails (low-terms (whole t) counts ps d)
+  low-total None counts ps d = record { low = eqb-false 9 16 refl }
+  low-total (Some t) counts ps d = low-either (t == 0) fails (low-terms (whole t) counts ps d)
 
   low-record : (tolerance : Float) (counts : List ℕ) (ps : List Float) (d : Diagnostics) → Low (with_record log deviance tolerance counts ps d)
   unfolding with_record
@@ -89,19 +85,19 @@ module _ (log : Float → Float) (deviance : Bool) where
   pub low-likelihood : (tolerance : Float) (s : List ℕ) (h : Header) (m : List Float) → Low (likelihood_by log deviance tolerance s h m)
   unfolding likelihood_by record_onward
   low-likelihood tolerance s h m =
-      fold-keeps _ Low _ (Fit no_diagnostics) fits
+      fold-keeps _ Low _ (Ok no_diagnostics) fits
       (λ r l _ p. low-onward _ l (λ d. low-after (present_of h.gates (sequence_of s h r)) (lower-present h.gates (sequence_of s h r)) (low-record tolerance (counts_of s h r) (probabilities_of h.dimension h.effects m (sequence_of s h r)) d)) p)
 
 -- ---- the sheet
 
 sound-likelihood : (l : Likelihood) → Low l → Sound (likelihood_sheet l)
-sound-likelihood (Fit d) p = shown-sound verdict.Good answer.Diagnostics _ lower-good refl
-sound-likelihood Failed p = other InvalidProbabilities (eqb-false 8 16 refl)
-sound-likelihood (Refused r) p = other r p.low
+sound-likelihood (Ok d) p = shown-sound good answer.Diagnostics _ lower-good
+sound-likelihood (Err Probabilities) p = other InvalidProbabilities (eqb-false 8 16 refl)
+sound-likelihood (Err (Refused r)) p = other r p.low
 
 pub sound-after : (v : Verdict) {o : Outcome} → Lower v → Sound o → Sound (after v refused o)
-sound-after verdict.Good p q = q
-sound-after (verdict.Refused r) p q = other r (p.low r refl)
+sound-after (Ok _) p q = q
+sound-after (Err r) p q = other r (p.low r refl)
 
 pub diagnostics-sound : (s : List ℕ) (h : Header) → Sound (diagnostics_sheet s h)
 unfolding diagnostics_sheet tolerance_sheet

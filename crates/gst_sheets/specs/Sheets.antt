@@ -1,15 +1,14 @@
 -- The sheet of kind 7, diagnostics of a gate set (document 01; the Rust's `fit_diagnostics_with_tolerance`): word 1 is the tolerance, then the model and the records.
-use Rattle.std.specs.Prelude.{ℕ, true, cond, List, [], ◌∷◌, Float}
+use Rattle.std.specs.Prelude.{Err, Ok, ℕ, true, cond, List, [], ◌∷◌, Float}
 use Rattle.numbers.specs.Number.{word, positive}
 use Rattle.numbers.specs.Slice.{number_at}
-use Rattle.refusal.specs.declared.Refusal.TheVariants.{InvalidTolerance, InvalidProbabilities}
+use Rattle.refusal.specs.declared.Refusal.TheVariants.{InvalidTolerance}
 use Rattle.refusal.specs.Verdicts.{after}
 use Rattle.card_layout.specs.declared.Header.{Header}
 use Rattle.model.specs.Checked.{checked_of}
 use Rattle.model_words.specs.Words.{numbers_of}
 use Rattle.likelihood.specs.declared.Diagnostics.{Diagnostics}
-use Rattle.likelihood.specs.declared.Likelihood.{Likelihood}
-use Rattle.likelihood.specs.declared.Likelihood.TheVariants as likelihood
+use Rattle.likelihood.specs.Multinomial.{Likelihood, refusal_of}
 use Rattle.diagnostics.specs.Diagnostics.{likelihood_of}
 use Rattle.outcome.specs.declared.Answer.TheVariants as answer
 use Rattle.outcome.specs.Outcome.{Outcome, refused}
@@ -19,9 +18,8 @@ diagnostics_words d = word d.log_likelihood ∷ word d.deviance ∷ []
 
 -- the two numbers, or why there are none
 abbrev pub likelihood_sheet : Likelihood → Outcome
-likelihood_sheet (likelihood.Fit d) = record { answer = answer.Diagnostics; words = diagnostics_words d }
-likelihood_sheet likelihood.Failed = refused InvalidProbabilities
-likelihood_sheet (likelihood.Refused r) = refused r
+likelihood_sheet (Ok d) = record { answer = Ok answer.Diagnostics; words = diagnostics_words d }
+likelihood_sheet (Err u) = refused (refusal_of u)
 
 -- the model is checked before the tolerance
 unfoldable pub tolerance_sheet : List ℕ → Header → Float → Outcome

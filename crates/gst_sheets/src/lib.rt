@@ -2,75 +2,54 @@
 #![tactic(auto)]
 
 ghost use Rattle.std.specs.Prelude.{◌≡◌, ℕ, ◌≤◌, ◌<◌, length, true};
-ghost use Rattle.lists.specs.Build.{over};
 ghost use Rattle.card_places.specs.Shape.{Shaped};
 ghost use Rattle.card_parts.specs.Parts.{Sequence};
 ghost use Rattle.model_words.specs.Words.{numbers_of};
 ghost use Rattle.diagnostics.specs.Diagnostics.{likelihood_of};
 ghost use Rattle.outcome.specs.Outcome.{Gives};
-ghost use Rattle.gst_sheets.specs.Sheets.{diagnostics_words, likelihood_sheet, tolerance_sheet, diagnostics_sheet};
+ghost use Rattle.gst_sheets.specs.Sheets.{tolerance_sheet, diagnostics_sheet};
 
 use card_layout::Header;
-use likelihood::{Diagnostics, Likelihood};
-use model_words::{columns_room, model_room};
+use card_parts::Card;
+use likelihood::{Diagnostics, Unfit};
+use numbers::word_of;
 use outcome::Answer;
-use refusal::{Refusal, Verdict};
+use refusal::Refusal;
 
-fn put_diagnostics(d: Diagnostics, res: &mut [u64])
-    requires { 2 ≤ length res.old }
-    ensures { res.new ≡ over (diagnostics_words d) res.old }
+// The diagnostics of the card's own model.
+fn diagnose(card: &Card<'_>, tolerance: f64) -> Result<Diagnostics, Unfit>
+    requires { (5 ≤ card.now.header.kind) × ((r : ℕ) → r < card.now.header.records → Sequence card.now.bytes.now card.now.header r) }
+    ensures { result ≡ likelihood_of true tolerance card.now.bytes.now card.now.header (numbers_of card.now.bytes.now card.now.header) }
 {
-    res[0] = numbers::word_of(d.log_likelihood);
-    res[1] = numbers::word_of(d.deviance);
+    let n = model_words::model_numbers(card.header);
+    let mut model = [0.0; 2320];
+    let mut columns = [0.0; 2048];
+    model_words::load_model(card.bytes, card.header, &mut model[..n]);
+    diagnostics::fit_diagnostics(card, &model[..n], true, tolerance, &mut columns)
 }
 
-fn show_likelihood(l: Likelihood, res: &mut [u64]) -> Answer
-    requires { 2 ≤ length res.old }
-    ensures { Gives (likelihood_sheet l) res.old res.new result }
+fn tolerance_sheet(card: &Card<'_>, tolerance: f64, res: &mut [u64]) -> Result<Answer, Refusal>
+    requires { (5 ≤ card.now.header.kind) × ((r : ℕ) → r < card.now.header.records → Sequence card.now.bytes.now card.now.header r) × (2 ≤ length res.old) }
+    ensures { Gives (tolerance_sheet card.now.bytes.now card.now.header tolerance) res.old res.new result }
 {
-    match l {
-        Likelihood::Fit(d) => {
-            put_diagnostics(d, res);
-            Answer::Diagnostics
-        }
-        Likelihood::Failed => Answer::Refused(Refusal::InvalidProbabilities),
-        Likelihood::Refused(r) => Answer::Refused(r),
+    if !numbers::is_positive(tolerance) {
+        return Err(Refusal::InvalidTolerance);
     }
-}
-
-// The likelihood of the card's own model.
-fn diagnose(card: &[u8], h: Header, tolerance: f64) -> Likelihood
-    requires { Shaped card.now h × (5 ≤ h.kind) × ((r : ℕ) → r < h.records → Sequence card.now h r) }
-    ensures { result ≡ likelihood_of true tolerance card.now h (numbers_of card.now h) }
-{
-    let n = model_words::model_numbers(h);
-    let mut model = model_room();
-    let mut columns = columns_room();
-    model_words::load_model(card, h, &mut model[..n]);
-    diagnostics::fit_diagnostics(card, h, &model[..n], true, tolerance, &mut columns)
-}
-
-fn tolerance_sheet(card: &[u8], h: Header, tolerance: f64, res: &mut [u64]) -> Answer
-    requires { Shaped card.now h × (5 ≤ h.kind) × ((r : ℕ) → r < h.records → Sequence card.now h r) × (2 ≤ length res.old) }
-    ensures { Gives (tolerance_sheet card.now h tolerance) res.old res.new result }
-{
-    if numbers::is_positive(tolerance) {
-        return show_likelihood(diagnose(card, h, tolerance), res);
-    }
-    Answer::Refused(Refusal::InvalidTolerance)
+    let d = diagnose(card, tolerance)?;
+    res[..2].copy_from_slice(&[word_of(d.log_likelihood), word_of(d.deviance)]);
+    Ok(Answer::Diagnostics)
 }
 
 // Kind 7.
-pub fn diagnostics_sheet(card: &[u8], h: Header, res: &mut [u64]) -> Answer
+pub fn diagnostics_sheet(card: &[u8], h: Header, res: &mut [u64]) -> Result<Answer, Refusal>
     requires { Shaped card.now h × (h.kind ≡ 7) × ((r : ℕ) → r < h.records → Sequence card.now h r) × (16 ≤ length card.now) × (4096 ≤ length res.old) }
     ensures { Gives (diagnostics_sheet card.now h) res.old res.new result }
 {
-    let found = model::check_model(card, h);
-    match found {
-        Verdict::Refused(r) => Answer::Refused(r),
-        Verdict::Good => {
-            let tolerance = numbers::number_of(numbers::word_at(card, 1));
-            tolerance_sheet(card, h, tolerance, res)
-        }
-    }
+    model::check_model(card, h)?;
+    let tolerance = numbers::number_of(numbers::word_at(card, 1));
+    let card = Card {
+        bytes: card,
+        header: h,
+    };
+    tolerance_sheet(&card, tolerance, res)
 }

@@ -3,23 +3,23 @@ use mathlib.Core.Path.{◌≡◌, refl, sym, ◌∙◌, ap, ap₂, subst}
 use mathlib.Core.Bool.{Bool, true, false, cond}
 use mathlib.Core.List.{List, [], ◌++◌, append-nil}
 use Prim.Native.Nat.{ℕ, zero, suc, ◌+◌, ◌-◌, ◌*◌, ◌/◌, ◌%◌, ◌≤◌, ◌<◌}
-use native.Mathlib.Nat.{mul-le-mul, not-suc-le-zero, zero-lt-suc, div-lt_iff_lt-mul, mod-lt}
+use native.Mathlib.Nat.{not-suc-le-zero, zero-lt-suc, div-lt_iff_lt-mul, mod-lt}
 use native.Mathlib.Omega.{arith}
 use lib.Dec.{eqb}
 use lib.ListN.{length, take, drop, get_or, length-append, length-drop, drop_of_length-le}
-use lib.Seq.{take_at, length-take-le}
+use lib.Seq.{take_at, take_all, get_or-drop}
 use lib.Count.{count_trailing_zeros}
 use lib.Ieee.{Float, nan, of_bits, of_fields, odd, add, sum, round, size, units, span, climb}
 use Rattle.lists.specs.Build.{build}
 use borrow.Author.Tests.{eq-eqb, ne_eqb, eqb-true, eqb-false, lt-ltb, le-ltb}
 use Rattle.lists.proofs.Choices.{yes, no}
-use Rattle.lists.proofs.Filling.{length-build, build-same, get_or-build, lent-copy}
-use Rattle.lists.proofs.Parts.{row-of, column-of, lent-long, entry-fits, part-lent}
+use Rattle.lists.proofs.Filling.{length-build, build-same, get_or-build, build-part}
+use Rattle.lists.proofs.Parts.{row-of, column-of, entry-fits, row_fits}
 use Rattle.lists.proofs.Rows.{build-append}
 use Rattle.numbers.specs.Number.{zero_f, one_f, ◌+ᶠ◌}
 use Rattle.numbers.specs.Slice.{at, blank}
 use Rattle.matrix.specs.Product.{cell}
-use Rattle.elimination.proofs.Entries.{part-entry}
+use Rattle.matrix.proofs.Sums.{lent-row, row-long, part_at}
 use Rattle.inversion.specs.Inversion.{beside_at, beside_identity, right_halves}
 use Rattle.inversion.specs.Kept.{start_at, start_rows, right_entry, Vacant, Keeps, kept_right}
 
@@ -30,25 +30,30 @@ start_number n a z = start_at n a (z / (2 * n + 2)) (z % (2 * n + 2))
 pub start-numbers : (n : ℕ) (a : List Float) (i : ℕ) → build (2 * n + 2) (start_at n a i) ≡ build (2 * n + 2) (λ j. start_number n a (i * (2 * n + 2) + j))
 start-numbers n a i = build-same (2 * n + 2) _ (λ j. start_number n a (i * (2 * n + 2) + j)) (λ j h. rw (row-of i j (2 * n + 2), column-of i j (2 * n + 2)))
 
--- row i of a, copied to the front of r as y, and zeros, put after it as u
-pub start_back : (n i e : ℕ) (a r y u : List Float) → i * n + n ≤ length a → length r ≡ 2 * n + 2 → e ≡ i * n + n
-    → y ≡ take (length (take n r)) (take (e - i * n) (drop (i * n) a))
+-- a list from entry n on, lent: all that is there
+back-all : (n : ℕ) (l : List Float) → take (length l - n) (drop n l) ≡ drop n l
+back-all n l = take_all (length l - n) (drop n l) (omega (arith, length-drop n l))
+
+-- row i of a, lent by its places and copied to the front of r as y, and zeros, put after it as u
+pub start_back : (n i b e : ℕ) (a r y u : List Float) → i < n → n * n ≤ length a → length r ≡ 2 * n + 2 → (b ≡ i * n) × (e ≡ i * n + n)
+    → y ≡ take (e - b) (drop b a)
     → u ≡ blank (take (length (y ++ drop n r) - n) (drop n (y ++ drop n r)))
     → take n (y ++ drop n r) ++ (u ++ drop (length (y ++ drop n r) - n) (drop n (y ++ drop n r))) ≡ build (2 * n + 2) (start_at n a i)
 unfolding start_at blank
-start_back n i e a r y u h m k p q =
-    let left : y ≡ build n (λ j. at a (i * n + j)) = lent-copy nan _ n (i * n) e a y (length-take-le n r (omega arith)) k (omega arith) p in
-    let long : length y ≡ n = ap length left ∙ length-build n _ in
-    let all : length (y ++ drop n r) ≡ n + (n + 2) = simp (length-append, length-drop) (omega arith) in
-    let none : drop (length (y ++ drop n r) - n) (drop n (y ++ drop n r)) ≡ [] = drop_of_length-le (drop n (y ++ drop n r)) {i = length (y ++ drop n r) - n} (simp length-drop (omega arith)) in
+start_back n i b e a r y u h k m q p v =
+    let long : length y ≡ n = ap length (p ∙ lent-row a i n b e q) ∙ row-long a i n h k in
+    let all : length (drop n (y ++ drop n r)) ≡ n + 2 = simp (length-append, length-drop) (omega arith) in
+    let none : drop (length (y ++ drop n r) - n) (drop n (y ++ drop n r)) ≡ [] = drop_of_length-le (drop n (y ++ drop n r)) {i = length (y ++ drop n r) - n} (omega (arith, length-drop n (y ++ drop n r))) in
     let two : 2 * n + 2 ≡ n + (n + 2) = omega arith in
     ap₂ ◌++◌
     (take_at y (drop n r) n long
-    ∙ left
+    ∙ p
+    ∙ lent-row a i n b e q
+    ∙ sym (build-part nan (i * n) n a (row_fits i n n (length a) h k))
     ∙ build-same n _ (start_at n a i) (λ j l. yes _ (lt-ltb j n l)))
-    (ap₂ ◌++◌ q none
+    (ap₂ ◌++◌ (v ∙ ap blank (back-all n (y ++ drop n r))) none
     ∙ append-nil _
-    ∙ ap (λ (c : ℕ). build c (λ _. zero_f)) (lent-long n (length (y ++ drop n r)) (n + 2) (y ++ drop n r) all (omega arith))
+    ∙ ap (λ (c : ℕ). build c (λ _. zero_f)) all
     ∙ build-same (n + 2) _ (λ j. start_at n a i (n + j)) (λ j l. no _ (le-ltb (n + j) n (omega arith)) refl))
     ∙ sym (ap (λ (c : ℕ). build c (start_at n a i)) two ∙ build-append n (n + 2) (start_at n a i))
 
@@ -123,18 +128,18 @@ module _ (n : ℕ) (a : List Float) where
 abbrev pub right_number : ℕ → List ℕ → List Float → ℕ → Float
 right_number n t u z = cell (2 * n + 2) u (z / n) (n + get_or t (z % n) 0)
 
--- row i of it, gathered from the lent part f..e of the rows u
-pub right-row : (n i f e z : ℕ) (t : List ℕ) (u ys : List Float) → z ≡ n → f ≡ i * (2 * n + 2) + n → e ≡ f + n → ((c : ℕ) → c < n → get_or t c 0 < n)
-    → ys ≡ build z (λ c. at (take (e - f) (drop f u)) (get_or t c 0)) → ys ≡ build n (λ j. right_number n t u (i * n + j))
-right-row n i f e z t u ys l p q w y =
+-- row i of it, gathered from row i of the rows u, lent by its places, from its number n on
+pub right-row : (n i b e z : ℕ) (t : List ℕ) (u ys : List Float) → z ≡ n → (b ≡ i * (2 * n + 2)) × (e ≡ i * (2 * n + 2) + (2 * n + 2)) → ((c : ℕ) → c < n → get_or t c 0 < n)
+    → ys ≡ build z (λ c. at (take (length (take (e - b) (drop b u)) - n) (drop n (take (e - b) (drop b u)))) (get_or t c 0)) → ys ≡ build n (λ j. right_number n t u (i * n + j))
+right-row n i b e z t u ys l q w y =
+    let p : List Float = take (e - b) (drop b u) in
     y
-    ∙ ap (λ (z : ℕ). build z (λ c. at (take (e - f) (drop f u)) (get_or t c 0))) l
+    ∙ ap₂ (λ (z : ℕ) (x : List Float). build z (λ c. at x (get_or t c 0))) l (back-all n p)
     ∙ build-same n _ (λ j. right_number n t u (i * n + j))
     (λ c cn.
-    let a : f + get_or t c 0 ≡ i * (2 * n + 2) + (n + get_or t c 0) = omega arith in
-    ap (λ (l : List Float). at l (get_or t c 0)) (part-lent f e n u q)
-    ∙ part-entry f n u (get_or t c 0) (w c cn)
-    ∙ ap (at u) a
+    get_or-drop n p (get_or t c 0) nan
+    ∙ ap (λ (l : List Float). at l (n + get_or t c 0)) (lent-row u i (2 * n + 2) b e q)
+    ∙ part_at u i (n + get_or t c 0) (2 * n + 2) (let k = w c cn in omega arith)
     ∙ sym (ap₂ (λ (r j : ℕ). cell (2 * n + 2) u r (n + get_or t j 0)) (row-of i c n cn) (column-of i c n cn)))
 
 above_zero : (n z : ℕ) → z < n * n → 0 < n
@@ -156,7 +161,3 @@ right_kept n t u m h =
 pub length-right : (n : ℕ) (l : List Float) → length (right_halves n l) ≡ n * n
 unfolding right_halves
 length-right n l = length-build (n * n) _
-
--- room for m rows is room for fewer
-pub rows-most : (n m : ℕ) → n ≤ m → n * (2 * n + 2) ≤ m * (2 * m + 2)
-rows-most n m h = mul-le-mul h (omega arith)

@@ -3,10 +3,10 @@ use mathlib.Core.Path.{◌≡◌, refl, sym, ◌∙◌, ap, ap₂, subst}
 use mathlib.Core.Bool.{Bool, true, false, not, cond}
 use mathlib.Core.List.{List, [], ◌++◌}
 use Prim.Native.Nat.{ℕ, zero, suc, ◌+◌, ◌-◌, ◌*◌, ◌≤◌, ◌<◌}
-use native.Mathlib.Nat.{le_refl}
+use native.Mathlib.Nat.{add-zero, add-suc, le_refl}
+use native.Mathlib.Numerals.{add-one}
 use native.Mathlib.Omega.{arith}
-use lib.ListN.{length, take, drop, get_or}
-use lib.Seq.{take_at}
+use lib.ListN.{length, drop, get_or}
 use lib.Ieee as Ieee
 use lib.Ieee.{Float}
 use Rattle.lists.specs.Build.{build, over}
@@ -58,14 +58,14 @@ module _ (n k : ℕ) (t : List ℕ) (u m : List Float) (h : Keeps n k t u m) (kn
   pivot-from = (same_rows (n - k) (le_refl (n - k))).2
 
 -- column k of a reduction that has come to the kept rows u, or has ended
-module _ (n : ℕ) (limit : Float) (k : ℕ) (t : List ℕ) (u : List Float) (going : Bool) where
-  pub has_ended : going ≡ false → (s : Reduction) → Stands n k going t u s → Stands n (k + 1) false t u (column_reduced n limit k s)
+module _ (n : ℕ) (limit : Float) (k : ℕ) (t : List ℕ) (u : List Float) where
+  has_ended : (s : Reduction) → Stands n k false t u s → Stands n (k + 1) false t u (column_reduced n limit k s)
   unfolding column_reduced
-  has_ended g (rows m) h = clash (sym g ∙ h.0)
-  has_ended g singular h = refl
+  has_ended (rows m) h = clash h.0
+  has_ended singular h = refl
 
   -- the pivot is in row p, and its magnitude is x
-  module _ (p : ℕ) (x : Float) (g : going ≡ true) (kn : k < n) (pn : p < n) (q : p ≡ pivot_row n (2 * n + 2) k u) (e : x ≡ magnitude (at u (p * (2 * n + 2) + k))) where
+  module _ (p : ℕ) (x : Float) (kn : k < n) (pn : p < n) (q : p ≡ pivot_row n (2 * n + 2) k u) (e : x ≡ magnitude (at u (p * (2 * n + 2) + k))) where
     row-of-pivot : (m : List Float) → Keeps n k t u m → p ≡ pivot_row n (2 * n) k m
     row-of-pivot m h = q ∙ same-pivot n k t u m h kn
 
@@ -77,13 +77,13 @@ module _ (n : ℕ) (limit : Float) (k : ℕ) (t : List ℕ) (u : List Float) (go
         ∙ ap (λ (y : Float). Ieee.le (abs y) limit) (h.left p k pn (le_refl k) kn)
         ∙ ap (λ (r : ℕ). Ieee.le (size_at (2 * n) k m r) limit) (row-of-pivot m h))
 
-    pub ends-here : Ieee.le x limit ≡ true → (s : Reduction) → Stands n k going t u s → Stands n (k + 1) false t u (column_reduced n limit k s)
+    pub ends-here : Ieee.le x limit ≡ true → (s : Reduction) → Stands n k true t u s → Stands n (k + 1) false t u (column_reduced n limit k s)
     unfolding column_reduced
     ends-here l (rows m) h = rw (same_test m h.1, l) refl
-    ends-here l singular h = refl
+    ends-here l singular h = clash (sym h)
 
     pub goes_on : (t₁ : List ℕ) (u₁ : List Float) → Ieee.le x limit ≡ false → length t ≡ n → u₁ ≡ kept_cleared n k p u → t₁ ≡ build (length t) (λ c. relabelled k p (get_or t c 0))
-        → (s : Reduction) → Stands n k going t u s → Stands n (k + 1) true t₁ u₁ (column_reduced n limit k s)
+        → (s : Reduction) → Stands n k true t u s → Stands n (k + 1) true t₁ u₁ (column_reduced n limit k s)
     unfolding column_reduced
     goes_on t₁ u₁ l lt eu et (rows m) h =
         let kp : k ≤ p = subst (λ (r : ℕ). k ≤ r) (sym q) (pivot-from n k t u m h.1 kn) in
@@ -91,7 +91,7 @@ module _ (n : ℕ) (limit : Float) (k : ℕ) (t : List ℕ) (u : List Float) (go
         let b : t₁ ≡ build n (λ c. relabelled k p (get_or t c 0)) = et ∙ ap (λ (z : ℕ). build z (λ c. relabelled k p (get_or t c 0))) lt in
         let a = subst (λ (v : List Float). Keeps n (k + 1) t₁ v (cleared_by n (2 * n) k p m)) (sym eu) (subst (λ (v : List ℕ). Keeps n (k + 1) v (kept_cleared n k p u) (cleared_by n (2 * n) k p m)) (sym b) d) in
         rw (same_test m h.1, l, ← row-of-pivot m h.1) (refl, a)
-    goes_on t₁ u₁ l lt eu et singular h = clash (sym h ∙ g)
+    goes_on t₁ u₁ l lt eu et singular h = clash (sym h)
 
 -- the reduction before column k, column after column
 module _ (n : ℕ) (limit : Float) (a : List Float) where
@@ -108,10 +108,20 @@ module _ (n : ℕ) (limit : Float) (a : List Float) where
       → Stands n n going t u (fold n (column_reduced n limit) (rows (beside_identity n a)))
   stands-last k going t u e h = subst (λ (j : ℕ). Stands n j going t u (fold j (column_reduced n limit) (rows (beside_identity n a)))) e h
 
--- of a reduction that was not ended the places lie within n, also where they are lent again
-pub places-within : (n : ℕ) (going : Bool) (t r : List ℕ) (u : List Float) (s : Reduction) → length t ≡ n → going ≡ true → Stands n n going t u s → (c : ℕ) → c < n → get_or (take n (t ++ r)) c 0 < n
-places-within n going t r u (rows m) e g h c l = subst (λ (x : List ℕ). get_or x c 0 < n) (sym (take_at t r n e)) (h.1.within c l)
-places-within n going t r u singular e g h c l = clash (sym h ∙ g)
+  -- a reduction that has ended before column k stays ended, d columns on and to the last
+  stays_ended : (k d : ℕ) (t : List ℕ) (u : List Float) → Stands n k false t u (fold k (column_reduced n limit) (rows (beside_identity n a)))
+      → Stands n (k + d) false t u (fold (k + d) (column_reduced n limit) (rows (beside_identity n a)))
+  stays_ended k zero t u h = rw add-zero h
+  stays_ended k (suc d) t u h = rw (add-suc, ← add-one (k + d)) (stands-next (k + d) false t u (has_ended n limit (k + d) t u _ (stays_ended k d t u h)))
+
+  pub ended-last : (k : ℕ) (t : List ℕ) (u : List Float) → k ≤ n → Stands n k false t u (fold k (column_reduced n limit) (rows (beside_identity n a)))
+      → Stands n n false t u (fold n (column_reduced n limit) (rows (beside_identity n a)))
+  ended-last k t u l h = stands-last (k + (n - k)) false t u (omega arith) (stays_ended k (n - k) t u h)
+
+-- of a reduction that was not ended the places lie within n
+pub places-within : (n : ℕ) (t : List ℕ) (u : List Float) (s : Reduction) → Stands n n true t u s → (c : ℕ) → c < n → get_or t c 0 < n
+places-within n t u (rows m) h = h.1.within
+places-within n t u singular h = clash (sym h)
 
 -- the tests of the scale s
 module _ (n : ℕ) (threshold : Float) (a : List Float) (s : Float) (e : s ≡ scale_of (n * n) a) where
@@ -143,26 +153,21 @@ module _ (n : ℕ) (threshold : Float) (a : List Float) where
   an-inverse l d m h e =
       (ap is_reduced h, e ∙ ap (λ (c : ℕ). right_halves n l ++ drop c d) (sym (length-right n l)) ∙ ap (λ (r : Reduction). over (right_of n r) d) h)
 
-  -- the reduction of the lent rows u is done: it ended before the last column, or the right half was written over the front of d
-  pub none_found : (found : Bool) (t : List ℕ) (u d : List Float) → found ≡ false → Stands n n found t u (reduction_of n threshold a)
-      → (false ≡ invertible n threshold a) × (d ≡ over (inverse_of n threshold a) d)
-  none_found found t u d f h = no-inverse d (go (reduction_of n threshold a) h)
+  -- the reduction of the rows u is done: it ended before the last column, or the right half was written over the front of d
+  pub none_found : (t : List ℕ) (u d : List Float) → Stands n n false t u (reduction_of n threshold a) → (false ≡ invertible n threshold a) × (d ≡ over (inverse_of n threshold a) d)
+  none_found t u d h = no-inverse d (go (reduction_of n threshold a) h)
     where
-      go : (r : Reduction) → Stands n n found t u r → singular ≡ r
-      go (rows m) s = clash (sym f ∙ s.0)
+      go : (r : Reduction) → Stands n n false t u r → singular ≡ r
+      go (rows m) s = clash s.0
       go singular s = refl
 
-  pub one_found : (found : Bool) (t r : List ℕ) (u rest d m : List Float) (size : ℕ) → found ≡ true → length t ≡ n → length u ≡ size → Stands n n found t u (reduction_of n threshold a)
-      → m ≡ kept_right n (take n (t ++ r)) (take size (u ++ rest)) ++ drop (n * n) d → (true ≡ invertible n threshold a) × (m ≡ over (inverse_of n threshold a) d)
-  one_found found t r u rest d m size f lt lu h w = go (reduction_of n threshold a) refl h
+  pub one_found : (t : List ℕ) (u d m : List Float) → Stands n n true t u (reduction_of n threshold a) → m ≡ kept_right n t u ++ drop (n * n) d
+      → (true ≡ invertible n threshold a) × (m ≡ over (inverse_of n threshold a) d)
+  one_found t u d m h w = go (reduction_of n threshold a) refl h
     where
-      go : (s : Reduction) → s ≡ reduction_of n threshold a → Stands n n found t u s → (true ≡ invertible n threshold a) × (m ≡ over (inverse_of n threshold a) d)
-      go (rows l) q s =
-          an-inverse l d m q
-          (w
-          ∙ ap₂ (λ (x : List ℕ) (y : List Float). kept_right n x y ++ drop (n * n) d) (take_at t r n lt) (take_at u rest size lu)
-          ∙ ap (λ (z : List Float). z ++ drop (n * n) d) (right_kept n t u l s.1))
-      go singular q s = clash (sym s ∙ f)
+      go : (s : Reduction) → s ≡ reduction_of n threshold a → Stands n n true t u s → (true ≡ invertible n threshold a) × (m ≡ over (inverse_of n threshold a) d)
+      go (rows l) q s = an-inverse l d m q (w ∙ ap (λ (z : List Float). z ++ drop (n * n) d) (right_kept n t u l s.1))
+      go singular q s = clash (sym s)
 
   pub length-inverse : invertible n threshold a ≡ true → length (inverse_of n threshold a) ≡ n * n
   unfolding invertible inverse_of

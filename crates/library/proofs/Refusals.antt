@@ -28,7 +28,7 @@ lower-qubits most n = lower-either (eqb n 0 || ltb most n) (lower-refused Invali
 
 pub probes-sound : (n : ℕ) → Sound (probes_entry n)
 unfolding probes_entry
-probes-sound n = shown-sound (qubits_of 3 n) (Probes (4 ^ n)) (words_of (4 ^ n * 4 ^ n) (probes_of n)) (lower-qubits 3 n) refl
+probes-sound n = shown-sound (qubits_of 3 n) (Probes (4 ^ n)) (words_of (4 ^ n * 4 ^ n) (probes_of n)) (lower-qubits 3 n)
 
 lower-setting : (n index : ℕ) → Lower (setting_verdict n index)
 unfolding setting_verdict
@@ -36,7 +36,7 @@ lower-setting n index = lower-first (lower-qubits 3 n) (lower-either (leb (3 ^ n
 
 pub setting-sound : (n index : ℕ) → Sound (setting_entry n index)
 unfolding setting_entry
-setting-sound n index = shown-sound (setting_verdict n index) (Setting n) (setting_of n index) (lower-setting n index) refl
+setting-sound n index = shown-sound (setting_verdict n index) (Setting n) (setting_of n index) (lower-setting n index)
 
 lower-apply : (n : ℕ) (values input : List Float) → Lower (apply_verdict n values input)
 unfolding apply_verdict applied_of
@@ -44,7 +44,7 @@ lower-apply n values input = lower-first (lower-qubits 2 n) (lower-first (lower-
 
 pub apply-sound : (n : ℕ) (values input : List Float) → Sound (apply_entry n values input)
 unfolding apply_entry
-apply-sound n values input = shown-sound (apply_verdict n values input) (Applied (4 ^ n)) (words_of (4 ^ n) (mat_vec_of (4 ^ n) values input)) (lower-apply n values input) refl
+apply-sound n values input = shown-sound (apply_verdict n values input) (Applied (4 ^ n)) (words_of (4 ^ n) (mat_vec_of (4 ^ n) values input)) (lower-apply n values input)
 
 lower-choi : (n : ℕ) (values : List Float) → Lower (choi_verdict n values)
 unfolding choi_verdict normalized_choi choi_tested
@@ -52,8 +52,8 @@ lower-choi n values = lower-first (lower-qubits 2 n) (lower-first (lower-numbers
 
 pub choi-sound : (n : ℕ) (values : List Float) → Sound (choi_entry n values)
 unfolding choi_entry
-choi-sound n values = shown-sound (choi_verdict n values) (Choi (4 ^ n)) (words_of (2 * (4 ^ n * 4 ^ n)) (choi_of n values)) (lower-choi n values) refl
+choi-sound n values = shown-sound (choi_verdict n values) (Choi (4 ^ n)) (words_of (2 * (4 ^ n * 4 ^ n)) (choi_of n values)) (lower-choi n values)
 
 pub probabilities-sound : (d effects : ℕ) (names : List ℕ) (numbers : List Float) (sequence : List ℕ) → Sound (probabilities_entry d effects names numbers sequence)
 unfolding probabilities_entry
-probabilities-sound d effects names numbers sequence = shown-sound (sequence_verdict d effects names numbers sequence) (Probabilities effects) (words_of effects (probabilities_of d effects numbers sequence)) (lower-sequence d effects names numbers sequence) refl
+probabilities-sound d effects names numbers sequence = shown-sound (sequence_verdict d effects names numbers sequence) (Probabilities effects) (words_of effects (probabilities_of d effects numbers sequence)) (lower-sequence d effects names numbers sequence)

@@ -1,10 +1,8 @@
 -- The library's entries beside the sheets, which document 01 names after the kinds: what each answers and writes.
-use Rattle.std.specs.Prelude.{ℕ, ◌*◌, ◌^◌, cond, ◌||◌, List, [], eqb, leb, ltb, Float}
+use Rattle.refusal.specs.Verdicts.{good, Verdict, first_of, after}
+use Rattle.std.specs.Prelude.{Err, ℕ, ◌*◌, ◌^◌, cond, ◌||◌, List, [], eqb, leb, ltb, Float}
 use Rattle.numbers.specs.Slice.{words_of}
 use Rattle.refusal.specs.declared.Refusal.TheVariants.{InvalidQubits, InvalidCard}
-use Rattle.refusal.specs.declared.Verdict.{Verdict}
-use Rattle.refusal.specs.declared.Verdict.TheVariants.{Good, Refused}
-use Rattle.refusal.specs.Verdicts.{first_of, after}
 use Rattle.matrix.specs.Product.{mat_vec_of}
 use Rattle.transfer.specs.Apply.{applied_of, applied_numbers}
 use Rattle.choi.specs.Choi.{choi_of, normalized_choi, choi_numbers}
@@ -17,7 +15,7 @@ use Rattle.outcome.specs.Outcome.{Outcome, shown}
 
 -- refusal 1: no qubit, or more than `most`
 unfoldable pub qubits_of : ℕ → ℕ → Verdict
-qubits_of most n = cond (eqb n 0 || ltb most n) (Refused InvalidQubits) Good
+qubits_of most n = cond (eqb n 0 || ltb most n) (Err InvalidQubits) good
 
 -- `product_probe_expectations`: 4^n probes, a row of 4^n expectations for each
 unfoldable pub probes_entry : ℕ → Outcome
@@ -25,7 +23,7 @@ probes_entry n = shown (qubits_of 3 n) (Probes (4 ^ n)) (words_of (4 ^ n * 4 ^ n
 
 -- `LocalPauliPlan::complete`, read by index: the axis of each of the n qubits
 unfoldable pub setting_verdict : ℕ → ℕ → Verdict
-setting_verdict n index = first_of (qubits_of 3 n) (cond (leb (3 ^ n) index) (Refused (InvalidCard index)) Good)
+setting_verdict n index = first_of (qubits_of 3 n) (cond (leb (3 ^ n) index) (Err (InvalidCard index)) good)
 
 unfoldable pub setting_entry : ℕ → ℕ → Outcome
 setting_entry n index = shown (setting_verdict n index) (Setting n) (setting_of n index)

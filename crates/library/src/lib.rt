@@ -3,105 +3,91 @@
 
 ghost use Rattle.std.specs.Prelude.{◌≡◌, ◌≤◌, ◌<◌, length};
 ghost use Rattle.lists.specs.Build.{over};
-ghost use Rattle.outcome.specs.Outcome.{in_room, Gives, Call};
+ghost use Rattle.outcome.specs.Outcome.{Gives, Call};
 ghost use Rattle.library.specs.Entries.{qubits_of, setting_verdict, apply_verdict, apply_numbers, probes_entry, setting_entry, apply_entry, choi_verdict, choi_left, choi_entry, probabilities_entry};
 
-use outcome::{Answer, has_room};
-use refusal::{Refusal, Verdict};
+use outcome::{Answer, in_room};
+use refusal::Refusal;
 use sizes::{four_to, square, three_to};
 
 // n is 1 to `most`.
-fn check_qubits(most: u64, n: u64) -> Verdict
+#[tactic(auto, unfolding(crate::specs::Entries::qubits_of))]
+fn check_qubits(most: u64, n: u64) -> Result<(), Refusal>
     ensures { result ≡ qubits_of most n }
 {
-    if n == 0 {
-        return Verdict::Refused(Refusal::InvalidQubits);
+    if n == 0 || most < n {
+        return Err(Refusal::InvalidQubits);
     }
-    if most < n {
-        return Verdict::Refused(Refusal::InvalidQubits);
-    }
-    Verdict::Good
+    Ok(())
 }
 
-fn probes(n: u64, res: &mut [u64], work: &mut [f64]) -> Answer
-    ensures { Gives (in_room res.old work.old (probes_entry n)) res.old res.new result }
+fn probes(n: u64, res: &mut [u64], work: &mut [f64]) -> Result<Answer, Refusal>
+    requires { (4096 ≤ length res.old) × (8192 ≤ length work.old) }
+    ensures { Gives (probes_entry n) res.old res.new result }
 {
-    if !has_room(res, work) {
-        return Answer::Refused(Refusal::ShortBuffer);
-    }
-    let found = check_qubits(3, n);
-    match found {
-        Verdict::Refused(r) => Answer::Refused(r),
-        Verdict::Good => {
-            let count = four_to(n as usize);
-            designs::probes(n as usize, work);
-            numbers::emit(work, count * count, res);
-            Answer::Probes {
-                count: count as u64,
-            }
-        }
-    }
+    check_qubits(3, n)?;
+    let count = four_to(n as usize);
+    designs::probes(n as usize, work);
+    numbers::emit(work, count * count, res);
+    Ok(Answer::Probes {
+        count: count as u64,
+    })
 }
 
 // The expectations of all Pauli strings in each of the 4^n product probes, a row for each probe.
-pub fn product_probe_expectations(n: u64, res: &mut [u64], work: &mut [f64]) -> Answer
+pub fn product_probe_expectations(
+    n: u64,
+    res: &mut [u64],
+    work: &mut [f64],
+) -> Result<Answer, Refusal>
     ensures { Call (probes_entry n) res.old res.new work.old work.new result }
 {
-    let answer = probes(n, res, work);
-    numbers::clear(work);
-    answer
+    in_room(res, work, |res, work| probes(n, res, work))
 }
 
-fn check_setting(n: u64, index: u64) -> Verdict
+fn check_setting(n: u64, index: u64) -> Result<(), Refusal>
     ensures { result ≡ setting_verdict n index }
 {
-    let found = check_qubits(3, n);
-    match found {
-        Verdict::Refused(r) => Verdict::Refused(r),
-        Verdict::Good => {
-            if three_to(n as usize) as u64 <= index {
-                return Verdict::Refused(Refusal::InvalidCard(index));
-            }
-            Verdict::Good
-        }
+    check_qubits(3, n)?;
+    if three_to(n as usize) as u64 <= index {
+        return Err(Refusal::InvalidCard(index));
     }
+    Ok(())
 }
 
-fn setting(n: u64, index: u64, res: &mut [u64], work: &[f64]) -> Answer
-    ensures { Gives (in_room res.old work.now (setting_entry n index)) res.old res.new result }
+fn setting(n: u64, index: u64, res: &mut [u64]) -> Result<Answer, Refusal>
+    requires { 4096 ≤ length res.old }
+    ensures { Gives (setting_entry n index) res.old res.new result }
 {
-    if !has_room(res, work) {
-        return Answer::Refused(Refusal::ShortBuffer);
-    }
-    let found = check_setting(n, index);
-    match found {
-        Verdict::Refused(r) => Answer::Refused(r),
-        Verdict::Good => {
-            designs::setting(n as usize, index as usize, res);
-            Answer::Setting { qubits: n }
-        }
-    }
+    check_setting(n, index)?;
+    designs::setting(n as usize, index as usize, res);
+    Ok(Answer::Setting { qubits: n })
 }
 
 // The axes of setting number `index` of the 3^n: X is 1, Y is 2 and Z is 3.
-pub fn local_pauli_setting(n: u64, index: u64, res: &mut [u64], work: &mut [f64]) -> Answer
+pub fn local_pauli_setting(
+    n: u64,
+    index: u64,
+    res: &mut [u64],
+    work: &mut [f64],
+) -> Result<Answer, Refusal>
     ensures { Call (setting_entry n index) res.old res.new work.old work.new result }
 {
-    let answer = setting(n, index, res, work);
-    numbers::clear(work);
-    answer
+    in_room(res, work, |res, _| setting(n, index, res))
 }
 
 // The expectations afterwards go to the front of the work slice.
-fn apply_within<'a>(n: u64, values: &'a [f64], input: &'a [f64], work: &mut [f64]) -> Verdict
+fn apply_within<'a>(
+    n: u64,
+    values: &'a [f64],
+    input: &'a [f64],
+    work: &mut [f64],
+) -> Result<(), Refusal>
     requires { 8192 ≤ length work.old }
     ensures { (result ≡ apply_verdict n values.now input.now) × (work.new ≡ over (apply_numbers n values.now input.now) work.old) }
 {
-    let found = check_qubits(2, n);
-    match found {
-        Verdict::Refused(r) => Verdict::Refused(r),
-        Verdict::Good => transfer::apply_expectations(values, input, four_to(n as usize), work),
-    }
+    check_qubits(2, n)?;
+    transfer::apply_expectations(values, input, four_to(n as usize), work)
 }
 
 fn apply<'a>(
@@ -110,21 +96,14 @@ fn apply<'a>(
     input: &'a [f64],
     res: &mut [u64],
     work: &mut [f64],
-) -> Answer
-    ensures { Gives (in_room res.old work.old (apply_entry n values.now input.now)) res.old res.new result }
+) -> Result<Answer, Refusal>
+    requires { (4096 ≤ length res.old) × (8192 ≤ length work.old) }
+    ensures { Gives (apply_entry n values.now input.now) res.old res.new result }
 {
-    if !has_room(res, work) {
-        return Answer::Refused(Refusal::ShortBuffer);
-    }
-    let found = apply_within(n, values, input, work);
-    match found {
-        Verdict::Refused(r) => Answer::Refused(r),
-        Verdict::Good => {
-            let p = four_to(n as usize);
-            numbers::emit(work, p, res);
-            Answer::Applied { size: p as u64 }
-        }
-    }
+    apply_within(n, values, input, work)?;
+    let p = four_to(n as usize);
+    numbers::emit(work, p, res);
+    Ok(Answer::Applied { size: p as u64 })
 }
 
 // A transfer matrix of 4^n by 4^n values, by rows, applied to 4^n expectations. What comes of it is not tested.
@@ -134,59 +113,43 @@ pub fn apply_expectations<'a>(
     input: &'a [f64],
     res: &mut [u64],
     work: &mut [f64],
-) -> Answer
+) -> Result<Answer, Refusal>
     ensures { Call (apply_entry n values.now input.now) res.old res.new work.old work.new result }
 {
-    let answer = apply(n, values, input, res, work);
-    numbers::clear(work);
-    answer
+    in_room(res, work, |res, work| apply(n, values, input, res, work))
 }
 
 // The Choi matrix goes to the front of the work slice.
-fn choi_within(n: u64, values: &[f64], work: &mut [f64]) -> Verdict
+fn choi_within(n: u64, values: &[f64], work: &mut [f64]) -> Result<(), Refusal>
     requires { 8192 ≤ length work.old }
     ensures { (result ≡ choi_verdict n values.now) × (work.new ≡ over (choi_left n values.now) work.old) }
 {
-    let found = check_qubits(2, n);
-    match found {
-        Verdict::Refused(r) => Verdict::Refused(r),
-        Verdict::Good => choi::normalized_choi(n as usize, values, work),
-    }
+    check_qubits(2, n)?;
+    choi::normalized_choi(n as usize, values, work)
 }
 
-fn choi_matrix(n: u64, values: &[f64], res: &mut [u64], work: &mut [f64]) -> Answer
-    ensures { Gives (in_room res.old work.old (choi_entry n values.now)) res.old res.new result }
+fn choi_matrix(n: u64, values: &[f64], res: &mut [u64], work: &mut [f64]) -> Result<Answer, Refusal>
+    requires { (4096 ≤ length res.old) × (8192 ≤ length work.old) }
+    ensures { Gives (choi_entry n values.now) res.old res.new result }
 {
-    if !has_room(res, work) {
-        return Answer::Refused(Refusal::ShortBuffer);
-    }
-    let found = choi_within(n, values, work);
-    match found {
-        Verdict::Refused(r) => Answer::Refused(r),
-        Verdict::Good => {
-            let p = four_to(n as usize);
-            numbers::emit(work, 2 * square(p), res);
-            Answer::Choi {
-                dimension: p as u64,
-            }
-        }
-    }
+    choi_within(n, values, work)?;
+    let p = four_to(n as usize);
+    numbers::emit(work, 2 * square(p), res);
+    Ok(Answer::Choi {
+        dimension: p as u64,
+    })
 }
 
 // The normalized Choi matrix of a transfer matrix of 4^n by 4^n values, by rows: real and imaginary part of each entry.
-pub fn normalized_choi(n: u64, values: &[f64], res: &mut [u64], work: &mut [f64]) -> Answer
+pub fn normalized_choi(
+    n: u64,
+    values: &[f64],
+    res: &mut [u64],
+    work: &mut [f64],
+) -> Result<Answer, Refusal>
     ensures { Call (choi_entry n values.now) res.old res.new work.old work.new result }
 {
-    let answer = choi_matrix(n, values, res, work);
-    numbers::clear(work);
-    answer
-}
-
-// Room for the probabilities.
-fn probabilities_room() -> [f64; 16]
-    ensures { 16 ≡ length result }
-{
-    [0.0; 16]
+    in_room(res, work, |res, work| choi_matrix(n, values, res, work))
 }
 
 fn sequence_outcome<'a>(
@@ -197,31 +160,24 @@ fn sequence_outcome<'a>(
     sequence: &'a [u64],
     res: &mut [u64],
     work: &mut [f64],
-) -> Answer
-    ensures { Gives (in_room res.old work.old (probabilities_entry d effects names.now numbers.now sequence.now)) res.old res.new result }
+) -> Result<Answer, Refusal>
+    requires { (4096 ≤ length res.old) × (8192 ≤ length work.old) }
+    ensures { Gives (probabilities_entry d effects names.now numbers.now sequence.now) res.old res.new result }
 {
-    if !has_room(res, work) {
-        return Answer::Refused(Refusal::ShortBuffer);
-    }
     let e = effects as usize;
-    let found = sequences::check(d as usize, e, names, numbers, sequence);
-    match found {
-        Verdict::Refused(r) => Answer::Refused(r),
-        Verdict::Good => {
-            let mut out = probabilities_room();
-            sequences::probabilities(
-                d as usize,
-                e,
-                names.len(),
-                numbers,
-                sequence,
-                work,
-                &mut out,
-            );
-            numbers::emit(&out, e, res);
-            Answer::Probabilities { count: effects }
-        }
-    }
+    sequences::check(d as usize, e, names, numbers, sequence)?;
+    let mut out = [0.0; 16];
+    sequences::probabilities(
+        d as usize,
+        e,
+        names.len(),
+        numbers,
+        sequence,
+        work,
+        &mut out,
+    );
+    numbers::emit(&out, e, res);
+    Ok(Answer::Probabilities { count: effects })
 }
 
 // The outcome probabilities of a gate sequence, the first gate applied first. The model has a name for each gate; its numbers are d of the state, d of each
@@ -234,10 +190,12 @@ pub fn probabilities<'a>(
     sequence: &'a [u64],
     res: &mut [u64],
     work: &mut [f64],
-) -> Answer
+) -> Result<Answer, Refusal>
     ensures { Call (probabilities_entry d effects names.now numbers.now sequence.now) res.old res.new work.old work.new result }
 {
-    let answer = sequence_outcome(d, effects, names, numbers, sequence, res, work);
-    numbers::clear(work);
-    answer
+    in_room(
+        res,
+        work,
+        |res, work| sequence_outcome(d, effects, names, numbers, sequence, res, work),
+    )
 }

@@ -1,30 +1,22 @@
 -- The log-likelihood does not depend on whether the deviance is summed. Assumes nothing.
-use Rattle.std.proofs.Common.{◌≡◌, ℕ, zero, suc, Bool, true, false, cond, eqb, List, length, get_or, refl, ap}
+use Rattle.likelihood.specs.declared.Unfit.TheVariants.{Probabilities}
+use Rattle.std.proofs.Common.{Err, None, Ok, Some, ◌≡◌, ℕ, zero, suc, Bool, true, false, cond, eqb, List, length, get_or, refl, ap}
 use lib.Ieee.{Float, lt, eq}
 use Rattle.lists.specs.Fold.{fold}
 use Rattle.numbers.specs.Number.{zero_f, ◌+ᶠ◌, ◌*ᶠ◌}
 use Rattle.numbers.specs.Slice.{at}
 use Rattle.rounding.specs.Units.{whole}
 use Rattle.likelihood.specs.declared.Diagnostics.{Diagnostics}
-use Rattle.likelihood.specs.declared.Likelihood.{Likelihood}
-use Rattle.likelihood.specs.declared.Likelihood.TheVariants.{Fit, Failed, Refused}
-use Rattle.likelihood.specs.declared.Total.{Total}
-use Rattle.likelihood.specs.declared.Total.TheVariants.{Counted, TooMany}
-use Rattle.likelihood.specs.Multinomial.{Alike, clamped, failing, total_of, counted_of, plus_term, with_term, onward, with_terms, with_total, with_record}
+use Rattle.likelihood.specs.Multinomial.{Likelihood, Total, Alike, clamped, failing, total_of, counted_of, plus_term, with_term, onward, with_terms, with_total, with_record}
 
 abbrev pub Same : (Diagnostics → Likelihood) → (Diagnostics → Likelihood) → Type 0
 Same f g = (d e : Diagnostics) → d.log_likelihood ≡ e.log_likelihood → Alike (f d) (g e)
 
 onward-alike : (f g : Diagnostics → Likelihood) → Same f g → (l m : Likelihood) → Alike l m → Alike (onward f l) (onward g m)
-onward-alike f g h (Fit d) (Fit e) a = h d e a
-onward-alike f g h (Fit d) Failed a = absurd a
-onward-alike f g h (Fit d) (Refused s) a = absurd a
-onward-alike f g h Failed (Fit e) a = absurd a
-onward-alike f g h Failed Failed a = tt
-onward-alike f g h Failed (Refused s) a = absurd a
-onward-alike f g h (Refused r) (Fit e) a = absurd a
-onward-alike f g h (Refused r) Failed a = absurd a
-onward-alike f g h (Refused r) (Refused s) a = a
+onward-alike f g h (Ok d) (Ok e) a = h d e a
+onward-alike f g h (Ok d) (Err u) a = absurd a
+onward-alike f g h (Err u) (Ok e) a = absurd a
+onward-alike f g h (Err u) (Err v) a = a
 
 -- two loops whose turns do alike
 pub fold-alike : (f g : ℕ → Diagnostics → Likelihood) → ((k : ℕ) → Same (f k) (g k)) → (n : ℕ) (l m : Likelihood) → Alike l m → Alike (fold n (λ k. onward (f k)) l) (fold n (λ k. onward (g k)) m)
@@ -38,8 +30,8 @@ module _ (log : Float → Float) (b b' : Bool) where
   unfolding with_term plus_term
   term-alike t c p d e h = go (lt zero_f c) (eq p zero_f)
     where
-      go : (seen none : Bool) → Alike (cond seen (cond none Failed (Fit (plus_term log b t c p d))) (Fit d)) (cond seen (cond none Failed (Fit (plus_term log b' t c p e))) (Fit e))
-      go true true = tt
+      go : (seen none : Bool) → Alike (cond seen (cond none (Err Probabilities) (Ok (plus_term log b t c p d))) (Ok d)) (cond seen (cond none (Err Probabilities) (Ok (plus_term log b' t c p e))) (Ok e))
+      go true true = refl
       go true false = ap (λ (x : Float). x +ᶠ c *ᶠ log p) h
       go false none = h
 
@@ -47,18 +39,18 @@ module _ (log : Float → Float) (b b' : Bool) where
   unfolding with_terms
   terms-alike t counts ps d e h =
       fold-alike (λ k. with_term log b t (whole (get_or counts k 0)) (clamped (at ps k))) (λ k. with_term log b' t (whole (get_or counts k 0)) (clamped (at ps k)))
-      (λ k. term-alike t (whole (get_or counts k 0)) (clamped (at ps k))) (length counts) (Fit d) (Fit e) h
+      (λ k. term-alike t (whole (get_or counts k 0)) (clamped (at ps k))) (length counts) (Ok d) (Ok e) h
 
   -- a record's log-likelihood does not depend on whether the deviance is summed
   pub record-alike : (tolerance : Float) (counts : List ℕ) (ps : List Float) → Same (with_record log b tolerance counts ps) (with_record log b' tolerance counts ps)
   unfolding with_record
   record-alike tolerance counts ps d e h = go (failing tolerance ps) (counted_of (total_of counts))
     where
-      some : (t : Float) (z : Bool) → Alike (cond z Failed (with_terms log b t counts ps d)) (cond z Failed (with_terms log b' t counts ps e))
-      some t true = tt
+      some : (t : Float) (z : Bool) → Alike (cond z (Err Probabilities) (with_terms log b t counts ps d)) (cond z (Err Probabilities) (with_terms log b' t counts ps e))
+      some t true = refl
       some t false = terms-alike t counts ps d e h
 
-      go : (f : Bool) (t : Total) → Alike (cond f Failed (with_total log b t counts ps d)) (cond f Failed (with_total log b' t counts ps e))
-      go true t = tt
-      go false TooMany = refl
-      go false (Counted t) = some _ (eqb t 0)
+      go : (f : Bool) (t : Total) → Alike (cond f (Err Probabilities) (with_total log b t counts ps d)) (cond f (Err Probabilities) (with_total log b' t counts ps e))
+      go true t = refl
+      go false None = refl
+      go false (Some t) = some _ (eqb t 0)

@@ -1,10 +1,9 @@
 -- Counts added up one by one. Assumes nothing.
-use Rattle.std.proofs.Common.{◌≡◌, ℕ, zero, suc, ◌+◌, ◌-◌, ◌^◌, ◌<◌, ◌≤◌, List, length, get_or, sym, refl, ap, le_refl, add-zero, add-suc, arith, le-leb}
+use Rattle.std.proofs.Common.{None, Some, ◌≡◌, ℕ, zero, suc, ◌+◌, ◌-◌, ◌^◌, ◌<◌, ◌≤◌, List, length, get_or, sym, refl, ap, le_refl, add-zero, add-suc, arith, le-leb}
 use borrow.Author.Tests.{lt-leb}
 use Rattle.lists.specs.Fold.{fold}
 use Rattle.lists.proofs.Choices.{yes, no}
 use Rattle.lists.proofs.Folding.{fold_end, fold_more}
-use Rattle.likelihood.specs.declared.Total.TheVariants.{Counted, TooMany}
 use Rattle.likelihood.specs.Multinomial.{total_of, counted_of}
 
 module _ (counts : List ℕ) where
@@ -19,17 +18,17 @@ module _ (counts : List ℕ) where
   grows k (suc n) = rw add-suc (omega (arith, grows k n))
 
   -- one more passes what a word holds
-  pub too_many : (k t : ℕ) → k < length counts → t ≡ up_to k → t < 2 ^ 64 → 18446744073709551615 - t < get_or counts k 0 → TooMany ≡ counted_of (total_of counts)
+  pub too_many : (k t : ℕ) → k < length counts → t ≡ up_to k → (t + get_or counts k 0 < 2 ^ 64 → ⊥) → None ≡ counted_of (total_of counts)
   unfolding total_of counted_of
-  too_many k t l e b h =
+  too_many k t l e h =
       let m : up_to (k + 1) ≡ t + get_or counts k 0 = sym (fold_more (λ k t. t + get_or counts k 0) k 0 t (t + get_or counts k 0) e refl) in
       let q : k + 1 + (length counts - (k + 1)) ≡ length counts = omega arith in
       let g : up_to (k + 1) ≤ up_to (length counts) = rw q at (grows (k + 1) (length counts - (k + 1))) in
-      yes (Counted (up_to (length counts))) (le-leb (2 ^ 64) (up_to (length counts)) (omega arith))
+      yes (Some (up_to (length counts))) (le-leb (2 ^ 64) (up_to (length counts)) (omega arith))
 
   -- all of them
-  pub counted : (k t : ℕ) → k ≡ length counts → t ≡ up_to k → t < 2 ^ 64 → Counted t ≡ counted_of (total_of counts)
+  pub counted : (k t : ℕ) → k ≡ length counts → t ≡ up_to k → t < 2 ^ 64 → Some t ≡ counted_of (total_of counts)
   unfolding total_of counted_of
   counted k t h e b =
       let a : t ≡ up_to (length counts) = fold_end (λ k t. t + get_or counts k 0) k (length counts) 0 t h e in
-      no TooMany (lt-leb (2 ^ 64) (up_to (length counts)) (omega arith)) (ap Counted a)
+      no None (lt-leb (2 ^ 64) (up_to (length counts)) (omega arith)) (ap Some a)

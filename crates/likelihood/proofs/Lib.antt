@@ -1,4 +1,5 @@
 pub mod Counts
+pub mod Loops
 pub mod Terms
 pub mod Records
 pub mod Alike

@@ -1,18 +1,36 @@
 -- The multinomial log-likelihood of counts, and the deviance from the saturated model (Nielsen et al. 2021, "Gate set tomography", section 5; the Rust's
 -- `fit_diagnostics_with_tolerance`): of one record, whose outcomes have these counts and probabilities.
-use Rattle.std.specs.Prelude.{◌≡◌, ℕ, ◌+◌, ◌^◌, Bool, false, cond, not, ◌||◌, List, length, ◌==◌, nat_le, slice_index, Float}
+use Rattle.std.specs.Prelude.{Option, Some, None, Result, Ok, Err, ◌≡◌, ℕ, ◌+◌, ◌^◌, Bool, false, cond, not, ◌||◌, List, length, ◌==◌, nat_le, slice_index, Float}
 use Rattle.std.specs.Float.Ieee.{lt, eq, neg}
 use Rattle.lists.specs.Fold.{fold}
 use Rattle.numbers.specs.Number.{zero_f, one_f, finite, abs, ◌+ᶠ◌, ◌-ᶠ◌, ◌*ᶠ◌, ◌/ᶠ◌}
 use Rattle.numbers.specs.Slice.{at}
 use Rattle.rounding.specs.Units.{whole}
 use Rattle.matrix.specs.Product.{sum_of}
-use Rattle.refusal.specs.declared.Refusal.TheVariants.{CountOverflow}
+use Rattle.refusal.specs.declared.Refusal.{Refusal}
+use Rattle.refusal.specs.declared.Refusal.TheVariants.{InvalidProbabilities, CountOverflow}
+use Rattle.logarithm.specs.Steps.{ln_by}
+use Rattle.logarithm.specs.declared.LnTables.{LnTables}
 use Rattle.likelihood.specs.declared.Diagnostics.{Diagnostics}
-use Rattle.likelihood.specs.declared.Likelihood.{Likelihood}
-use Rattle.likelihood.specs.declared.Likelihood.TheVariants.{Fit, Failed, Refused}
-use Rattle.likelihood.specs.declared.Total.{Total}
-use Rattle.likelihood.specs.declared.Total.TheVariants.{Counted, TooMany}
+use Rattle.likelihood.specs.declared.Unfit.{Unfit}
+use Rattle.likelihood.specs.declared.Unfit.TheVariants.{Probabilities, Refused}
+
+-- the diagnostics of a model; or that its probabilities fail, which a fit's trial may; or another refusal
+abbrev pub Likelihood : Type 0
+Likelihood = Result Diagnostics Unfit
+
+-- what refuses a sheet of the likelihood
+abbrev pub refusal_of : Unfit → Refusal
+refusal_of Probabilities = InvalidProbabilities
+refusal_of (Refused r) = r
+
+-- counts added up, unless the sum is 2^64 or more
+abbrev pub Total : Type 0
+Total = Option ℕ
+
+-- the logarithm by tables
+abbrev pub log_in : LnTables → Float → Float
+log_in t x = ln_by (at t.quotients) (at t.remainders) x
 
 -- ---- probabilities
 
@@ -38,7 +56,7 @@ unfoldable pub total_of : List ℕ → ℕ
 total_of counts = fold (length counts) (λ k t. t + slice_index counts k) 0
 
 unfoldable pub counted_of : ℕ → Total
-counted_of t = cond (nat_le (2 ^ 64) t) TooMany (Counted t)
+counted_of t = cond (nat_le (2 ^ 64) t) None (Some t)
 
 -- ---- terms
 
@@ -55,42 +73,36 @@ module _ (log : Float → Float) (deviance : Bool) where
 
   -- nothing is added where it was not seen; seen at probability 0 it fails
   unfoldable pub with_term : Float → Float → Float → Diagnostics → Likelihood
-  with_term t c p d = cond (lt zero_f c) (cond (eq p zero_f) Failed (Fit (plus_term t c p d))) (Fit d)
+  with_term t c p d = cond (lt zero_f c) (cond (eq p zero_f) (Err Probabilities) (Ok (plus_term t c p d))) (Ok d)
 
 -- what follows a likelihood that was found so far
 abbrev pub onward : (Diagnostics → Likelihood) → Likelihood → Likelihood
-onward next (Fit d) = next d
-onward next Failed = Failed
-onward next (Refused r) = Refused r
+onward next (Ok d) = next d
+onward next (Err u) = Err u
 
 -- the same but for the deviance
 abbrev pub Alike : Likelihood → Likelihood → Type 0
-Alike (Fit d) (Fit e) = d.log_likelihood ≡ e.log_likelihood
-Alike (Fit d) Failed = ⊥
-Alike (Fit d) (Refused s) = ⊥
-Alike Failed (Fit e) = ⊥
-Alike Failed Failed = Unit {0}
-Alike Failed (Refused s) = ⊥
-Alike (Refused r) (Fit e) = ⊥
-Alike (Refused r) Failed = ⊥
-Alike (Refused r) (Refused s) = r ≡ s
+Alike (Ok d) (Ok e) = d.log_likelihood ≡ e.log_likelihood
+Alike (Ok d) (Err u) = ⊥
+Alike (Err u) (Ok e) = ⊥
+Alike (Err u) (Err v) = u ≡ v
 
 -- found, or failed
 abbrev pub Unrefused : Likelihood → Type 0
-Unrefused (Fit d) = Unit {0}
-Unrefused Failed = Unit {0}
-Unrefused (Refused r) = ⊥
+Unrefused (Ok d) = Unit {0}
+Unrefused (Err Probabilities) = Unit {0}
+Unrefused (Err (Refused r)) = ⊥
 
 module _ (log : Float → Float) (deviance : Bool) where
   -- outcome by outcome, t of all
   unfoldable pub with_terms : Float → List ℕ → List Float → Diagnostics → Likelihood
-  with_terms t counts ps d = fold (length counts) (λ k. onward (with_term log deviance t (whole (slice_index counts k)) (clamped (at ps k)))) (Fit d)
+  with_terms t counts ps d = fold (length counts) (λ k. onward (with_term log deviance t (whole (slice_index counts k)) (clamped (at ps k)))) (Ok d)
 
   -- too many counts, none at all, or their terms
   abbrev pub with_total : Total → List ℕ → List Float → Diagnostics → Likelihood
-  with_total TooMany counts ps d = Refused CountOverflow
-  with_total (Counted t) counts ps d = cond (t == 0) Failed (with_terms (whole t) counts ps d)
+  with_total None counts ps d = Err (Refused CountOverflow)
+  with_total (Some t) counts ps d = cond (t == 0) (Err Probabilities) (with_terms (whole t) counts ps d)
 
   -- one record
   unfoldable pub with_record : Float → List ℕ → List Float → Diagnostics → Likelihood
-  with_record tolerance counts ps d = cond (failing tolerance ps) Failed (with_total (counted_of (total_of counts)) counts ps d)
+  with_record tolerance counts ps d = cond (failing tolerance ps) (Err Probabilities) (with_total (counted_of (total_of counts)) counts ps d)

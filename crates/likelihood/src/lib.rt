@@ -1,12 +1,12 @@
 // The multinomial log-likelihood and deviance of one record: its probabilities are tested, its counts added up, and a term added for each outcome.
 #![tactic(auto)]
 
-ghost use Rattle.std.specs.Prelude.{◌≡◌, ◌≤◌, length};
-ghost use Rattle.numbers.specs.Slice.{at};
-ghost use Rattle.matrix.specs.Product.{sum_of};
-ghost use Rattle.logarithm.specs.Steps.{ln_by};
+ghost use Rattle.std.specs.Prelude.{◌≡◌, ◌≤◌, false, ◌||◌, length};
+ghost use Rattle.std.specs.List.{fold};
+ghost use Rattle.numbers.specs.Number.{◌+ᶠ◌};
 ghost use Rattle.likelihood.specs.Multinomial as spec;
 
+use logarithm::LnTables;
 use refusal::Refusal;
 
 // The Rust's `FitDiagnostics`.
@@ -16,106 +16,99 @@ pub struct Diagnostics {
     pub deviance: f64,
 }
 
-// The diagnostics of a model; that its probabilities fail, which a fit's trial may; or another refusal.
+// Why a model has no diagnostics: its probabilities fail, which a fit's trial may; or another refusal.
 #[derive(Clone, Copy)]
-pub enum Likelihood {
-    Fit(Diagnostics),
-    Failed,
+pub enum Unfit {
+    Probabilities,
     Refused(Refusal),
 }
 
-// Counts added up, or that the sum is 2^64 or more.
+impl From<Refusal> for Unfit {
+    ghost use Rattle.likelihood.specs.declared.Unfit.TheVariants.{Refused};
+
+    ghost from_gives = { λ r u. u ≡ Refused r };
+
+    fn from(r: Refusal) -> Unfit {
+        Unfit::Refused(r)
+    }
+}
+
+impl From<Unfit> for Refusal {
+    ghost use Rattle.likelihood.specs.Multinomial.{refusal_of};
+
+    ghost from_gives = { λ u r. r ≡ refusal_of u };
+
+    fn from(u: Unfit) -> Refusal {
+        match u {
+            Unfit::Probabilities => Refusal::InvalidProbabilities,
+            Unfit::Refused(r) => r,
+        }
+    }
+}
+
+// How records are weighed: by which tables of logarithms, whether the deviance is summed, and how far probabilities may be off.
 #[derive(Clone, Copy)]
-pub enum Total {
-    Counted(u64),
-    TooMany,
+pub struct Weighing<'a> {
+    pub tables: &'a LnTables,
+    pub deviance: bool,
+    pub tolerance: f64,
 }
 
 fn is_bad(tolerance: f64, p: f64) -> bool
     ensures { result ≡ spec.bad_probability tolerance p }
 {
-    if !numbers::is_finite(p) {
-        return true;
-    }
-    if p < -tolerance {
-        return true;
-    }
-    1.0 + tolerance < p
+    !numbers::is_finite(p) | ((p < -tolerance) | (1.0 + tolerance < p))
 }
 
 fn any_bad(tolerance: f64, ps: &[f64]) -> bool
-    ensures { result ≡ spec.any_bad tolerance ps.now }
+    ensures { result ≡ fold (λ bad p. bad || spec.bad_probability tolerance p) false ps.now }
 {
-    let n = ps.len();
-    let mut bad = false;
-    for k in 0..n {
-        bad = booleans::either(bad, is_bad(tolerance, ps[k]));
-    }
-    bad
+    ps.iter().fold(false, |bad, p| bad | is_bad(tolerance, *p))
 }
 
-fn sum(xs: &[f64]) -> f64
-    ensures { result ≡ sum_of (length xs.now) (at xs.now) }
+fn add_to(s: f64, xs: &[f64]) -> f64
+    ensures { result ≡ fold (λ s x. s +ᶠ x) s xs.now }
 {
-    let n = xs.len();
-    let mut s = -0.0;
-    for k in 0..n {
-        s = s + xs[k];
-    }
-    s
+    xs.iter().fold(s, |s, x| s + x)
 }
 
 fn fails(tolerance: f64, ps: &[f64]) -> bool
     ensures { result ≡ spec.failing tolerance ps.now }
 {
-    if any_bad(tolerance, ps) {
-        return true;
-    }
-    tolerance < numbers::abs_of(sum(ps) - 1.0)
+    any_bad(tolerance, ps) || tolerance < numbers::abs_of(add_to(-0.0, ps) - 1.0)
 }
 
 fn clamp(p: f64) -> f64
     ensures { result ≡ spec.clamped p }
 {
     if p < 0.0 {
-        return 0.0;
+        0.0
+    } else if 1.0 < p {
+        1.0
+    } else {
+        p
     }
-    if 1.0 < p {
-        return 1.0;
-    }
-    p
 }
 
-fn add_counts(counts: &[u64]) -> Total
+fn add_counts(counts: &[u64]) -> Option<u64>
     ensures { result ≡ spec.counted_of (spec.total_of counts.now) }
 {
-    let n = counts.len();
-    let mut t = 0;
-    for k in 0..n {
-        let c = counts[k];
-        if 0xffff_ffff_ffff_ffff - t < c {
-            return Total::TooMany;
-        }
-        t = t + c;
+    let mut t = 0u64;
+    for c in counts {
+        t = t.checked_add(*c)?;
     }
-    Total::Counted(t)
+    Some(t)
 }
 
 // The term of an outcome seen c times out of t, of probability p.
-fn plus_term<'a>(
-    quotients: &'a [f64; 257],
-    remainders: &'a [f64; 257],
-    deviance: bool,
-    t: f64,
-    c: f64,
-    p: f64,
-    d: Diagnostics,
-) -> Diagnostics
-    ensures { result ≡ spec.plus_term (ln_by (at quotients.now) (at remainders.now)) deviance t c p d }
+fn plus_term(w: &Weighing<'_>, t: f64, c: f64, p: f64, d: Diagnostics) -> Diagnostics
+    ensures { result ≡ spec.plus_term (spec.log_in w.now.tables.now) w.now.deviance t c p d }
 {
-    let likely = d.log_likelihood + c * logarithm::ln_by(quotients, remainders, p);
-    if deviance {
-        let term = 2.0 * c * logarithm::ln_by(quotients, remainders, c / (t * p));
+    let tables = w.tables;
+    let likely = d.log_likelihood + c * logarithm::ln_by(&tables.quotients, &tables.remainders, p);
+    if w.deviance {
+        let ratio = logarithm::ln_by(&tables.quotients, &tables.remainders, c / (t * p));
+        let term = 2.0 * c * ratio;
         return Diagnostics {
             log_likelihood: likely,
             deviance: d.deviance + term,
@@ -127,91 +120,53 @@ fn plus_term<'a>(
     }
 }
 
-fn with_term<'a>(
-    quotients: &'a [f64; 257],
-    remainders: &'a [f64; 257],
-    deviance: bool,
-    t: f64,
-    c: f64,
-    p: f64,
-    d: Diagnostics,
-) -> Likelihood
-    ensures { result ≡ spec.with_term (ln_by (at quotients.now) (at remainders.now)) deviance t c p d }
+fn with_term(w: &Weighing<'_>, t: f64, c: f64, p: f64, d: Diagnostics) -> Result<Diagnostics, Unfit>
+    ensures { result ≡ spec.with_term (spec.log_in w.now.tables.now) w.now.deviance t c p d }
 {
     if 0.0 < c {
         if p == 0.0 {
-            return Likelihood::Failed;
+            return Err(Unfit::Probabilities);
         }
-        return Likelihood::Fit(plus_term(quotients, remainders, deviance, t, c, p, d));
+        return Ok(plus_term(w, t, c, p, d));
     }
-    Likelihood::Fit(d)
+    Ok(d)
 }
 
-// One outcome more, where all before it passed.
-fn term_onward<'a>(
-    quotients: &'a [f64; 257],
-    remainders: &'a [f64; 257],
-    deviance: bool,
-    t: f64,
-    c: f64,
-    p: f64,
-    l: Likelihood,
-) -> Likelihood
-    ensures { result ≡ spec.onward (spec.with_term (ln_by (at quotients.now) (at remainders.now)) deviance t c p) l }
-{
-    match l {
-        Likelihood::Fit(d) => with_term(quotients, remainders, deviance, t, c, p, d),
-        Likelihood::Failed => Likelihood::Failed,
-        Likelihood::Refused(r) => Likelihood::Refused(r),
-    }
-}
-
-fn with_terms<'a>(
-    quotients: &'a [f64; 257],
-    remainders: &'a [f64; 257],
-    deviance: bool,
+// The terms of all outcomes, up to the first that fails.
+fn with_terms(
+    w: &Weighing<'_>,
     t: f64,
     counts: &[u64],
     ps: &[f64],
     d: Diagnostics,
-) -> Likelihood
+) -> Result<Diagnostics, Unfit>
     requires { length counts.now ≤ length ps.now }
-    ensures { result ≡ spec.with_terms (ln_by (at quotients.now) (at remainders.now)) deviance t counts.now ps.now d }
+    ensures { result ≡ spec.with_terms (spec.log_in w.now.tables.now) w.now.deviance t counts.now ps.now d }
 {
-    let n = counts.len();
-    let mut l = Likelihood::Fit(d);
-    for k in 0..n {
-        let c = std::num::nearest_u64_to_f64(counts[k]);
-        l = term_onward(quotients, remainders, deviance, t, c, clamp(ps[k]), l);
+    let mut sum = d;
+    for (k, c) in counts.iter().enumerate() {
+        let seen = std::num::nearest_u64_to_f64(*c);
+        sum = with_term(w, t, seen, clamp(ps[k]), sum)?;
     }
-    l
+    Ok(sum)
 }
 
-// Adds one record's terms to d, by tables of logarithms that are lent.
-pub fn with_record<'a>(
-    quotients: &'a [f64; 257],
-    remainders: &'a [f64; 257],
-    deviance: bool,
-    tolerance: f64,
+// Adds one record's terms to d.
+pub fn with_record(
+    w: &Weighing<'_>,
     counts: &[u64],
     ps: &[f64],
     d: Diagnostics,
-) -> Likelihood
+) -> Result<Diagnostics, Unfit>
     requires { length counts.now ≤ length ps.now }
-    ensures { result ≡ spec.with_record (ln_by (at quotients.now) (at remainders.now)) deviance tolerance counts.now ps.now d }
+    ensures { result ≡ spec.with_record (spec.log_in w.now.tables.now) w.now.deviance w.now.tolerance counts.now ps.now d }
 {
-    if fails(tolerance, ps) {
-        return Likelihood::Failed;
+    if fails(w.tolerance, ps) {
+        return Err(Unfit::Probabilities);
     }
-    let found = add_counts(counts);
-    match found {
-        Total::TooMany => Likelihood::Refused(Refusal::CountOverflow),
-        Total::Counted(t) => {
-            if t == 0 {
-                return Likelihood::Failed;
-            }
-            let all = std::num::nearest_u64_to_f64(t);
-            with_terms(quotients, remainders, deviance, all, counts, ps, d)
-        }
+    match add_counts(counts) {
+        None => Err(Unfit::Refused(Refusal::CountOverflow)),
+        Some(0) => Err(Unfit::Probabilities),
+        Some(t) => with_terms(w, std::num::nearest_u64_to_f64(t), counts, ps, d),
     }
 }

@@ -123,6 +123,12 @@ module _ {A : Type 0} where
   pub fill-all : (f : ℕ → A) (d : List A) (i : ℕ) (out : List A) → i ≡ length d → Filled f d i out → out ≡ build (length d) f
   fill-all f d i out h e = e ∙ rw (h, drop_of_length-le d (le_refl (length d)), append-nil)
 
+  -- a loop over the first n entries of d, which were lent: all of them are filled, and back in d
+  pub fill-front : (f : ℕ → A) (d : List A) (n i : ℕ) (items : List A) → n ≤ length d → i ≡ length (take n d) → Filled f (take n d) i items → items ++ drop n d ≡ build n f ++ drop n d
+  fill-front f d n i items h k e =
+      let l : length (take n d) ≡ n = simp length-take (omega arith) in
+      ap (λ (x : List A). x ++ drop n d) (fill-all f (take n d) i items k e ∙ ap (λ (m : ℕ). build m f) l)
+
   pub length-filled : (f : ℕ → A) (d : List A) (i : ℕ) (out : List A) → i ≤ length d → Filled f d i out → length out ≡ length d
   length-filled f d i out h e = ap length e ∙ simp (length-append, length-build, length-drop) (omega arith)
 

@@ -1,7 +1,7 @@
 // The natural logarithm of a number, in the steps of document 01 over two tables.
 #![tactic(auto)]
 
-ghost use Rattle.std.specs.Prelude.{◌≡◌, ◌<◌, ◌≤◌};
+ghost use Rattle.std.specs.Prelude.{◌≡◌, ◌^◌, ◌<◌, ◌≤◌};
 ghost use Rattle.numbers.specs.Slice.{at};
 ghost use Rattle.logarithm.specs.Steps.{ln_of, ln_by, ln};
 ghost use Rattle.logarithm.specs.Error.{Tabled, LnError};
@@ -527,38 +527,50 @@ const REMAINDERS: [f64; 257] = [
 ];
 
 // The whole numbers nearest 2^70 · ln(1 + j/256), for j from 0 to 256, by quotient and remainder by 2^27. They are below 2^53, and so are numbers, which saves
-// the logarithm four conversions.
+// the logarithm four conversions. One array of pairs takes as many steps as the two.
 #[derive(Drop)]
-pub struct Entries {
+pub struct LnTables {
     pub quotients: [f64; 257],
     pub remainders: [f64; 257],
+    pub ghost tabled: { Tabled quotients remainders },
 }
 
-// A constant array is laid out anew wherever it is read, which costs ten times the logarithm: a caller with many numbers makes the tables once, and lends them to `ln_by`.
-pub fn tables() -> Entries
+impl LnTables {
+    // A constant array is laid out anew wherever it is read, which costs ten times the logarithm: a caller with many numbers makes the tables once.
+    pub fn new() -> Self {
+        LnTables {
+            quotients: QUOTIENTS,
+            remainders: REMAINDERS,
+        }
+    }
+
+    // The natural logarithm.
+    pub fn ln(&self, x: f64) -> f64
+        ensures steps { result ≡ ln x }
+        ensures error { LnError x result }
+    {
+        ln_by(&self.quotients, &self.remainders, x)
+    }
+}
+
+// The tables, for those who lend them to `ln_by`.
+pub fn tables() -> LnTables
     ensures { Tabled result.quotients result.remainders }
 {
-    Entries {
-        quotients: QUOTIENTS,
-        remainders: REMAINDERS,
-    }
+    LnTables::new()
 }
 
 // ln of m · 2^(n - 1126), for an m of 53 digits: document 01's M is m, and its e is n - 1074.
 fn ln_of<'a>(quotients: &'a [f64; 257], remainders: &'a [f64; 257], m: u64, n: u64) -> f64
-    requires { (4503599627370496 ≤ m) × (m < 9007199254740992) }
+    requires { (2 ^ 52 ≤ m) × (m < 2 ^ 53) × (n ≤ 2097) }
     ensures { result ≡ ln_of (at quotients.now) (at remainders.now) m n }
 {
     let j = (m / 17592186044416 - 256) as usize;
-    let l = std::num::nearest_u64_to_f64(m % 17592186044416);
-    let c = std::num::nearest_u64_to_f64(m / 17592186044416);
-    let e = std::num::nearest_u64_to_f64(n) - 1074.0;
-    let q = quotients[j];
-    let r = remainders[j];
-    let q2 = quotients[256];
-    let r2 = remainders[256];
-    let hi = (e * q2 + q) / 8796093022208.0;
-    let lo = (e * r2 + r) / 1180591620717411303424.0;
+    let l = (m % 17592186044416) as f64;
+    let c = (m / 17592186044416) as f64;
+    let e = n as f64 - 1074.0;
+    let hi = (e * quotients[256] + quotients[j]) / 8796093022208.0;
+    let lo = (e * remainders[256] + remainders[j]) / 1180591620717411303424.0;
     let t = l / (c * 17592186044416.0);
     let s = t * t * (0.5 - t * (1.0 / 3.0 - t * (0.25 - t * (1.0 / 5.0 - t / 6.0))));
     hi + (lo + (t - s))
@@ -569,20 +581,19 @@ pub fn ln_by<'a>(quotients: &'a [f64; 257], remainders: &'a [f64; 257], x: f64) 
     ensures { result ≡ ln_by (at quotients.now) (at remainders.now) x }
 {
     if x > 0.0 {
-        if x == 1.0 / 0.0 {
-            return x;
-        }
-        let p = significand::parts_of(x);
-        return ln_of(quotients, remainders, p.significand, p.exponent);
+        return match significand::parts_of(x) {
+            Some(p) => ln_of(quotients, remainders, p.significand, p.exponent),
+            // the infinity
+            None => x,
+        };
     }
-    0.0 / 0.0
+    f64::NAN
 }
 
-// The natural logarithm.
+// The natural logarithm of one number.
 pub fn ln(x: f64) -> f64
     ensures steps { result ≡ ln x }
     ensures error { LnError x result }
 {
-    let t = tables();
-    ln_by(&t.quotients, &t.remainders, x)
+    LnTables::new().ln(x)
 }

@@ -1,19 +1,26 @@
 // The pivot of classical Jacobi: the largest magnitude above the diagonal. A square root costs more than all else that is done to an entry, so a bound of each
 // magnitude is kept, and the magnitude itself once the bound did not rule it out.
-#![tactic(auto)]
+#![tactic(auto, using(lists::proofs::Folding::fold_more), unfolding(crate::specs::Notes::widened, crate::specs::Notes::noted, crate::specs::Notes::measured, crate::specs::Notes::noted_cross, crate::specs::Notes::renoted, crate::specs::Notes::sized_at, crate::specs::Notes::looked, crate::specs::Notes::looked_in, crate::specs::Notes::searched, crate::specs::Pivot::larger, lists::specs::Fold::fold))]
 
-ghost use Rattle.std.specs.Prelude.{◌≡◌, ◌+◌, ◌*◌, ◌<◌, length};
+ghost use Rattle.std.specs.Prelude.{◌≡◌, ◌+◌, ◌*◌, ◌<◌, ◌≤◌, length};
 ghost use Rattle.entries.specs.Entries.{entries};
 ghost use Rattle.magnitudes.specs.Pivot as spec;
-ghost use Rattle.magnitudes.specs.Notes.{notes, found, widened, noted, noted_cross, renoted, measured, looked, looked_in, searched};
+ghost use Rattle.magnitudes.specs.Notes.{blank, found, widened, noted, noted_cross, renoted, measured, looked, looked_in, searched};
 
 use complex::Complex;
 
-#[derive(Clone, Copy)]
+#[derive(Clone, Copy, Debug, PartialEq)]
 pub struct Pivot {
     pub best: f64,
     pub p: usize,
     pub q: usize,
+}
+
+// Of each entry of a matrix of up to N entries: a bound of its magnitude, and the magnitude, or -1 where it is not known (an `Option` would take twice the room).
+#[derive(Drop)]
+pub struct Notes<const N: usize> {
+    bounds: [f64; N],
+    sizes: [f64; N],
 }
 
 // The larger of s and the magnitude of z.
@@ -31,125 +38,119 @@ pub fn scale(a: &[f64], n: usize) -> f64
     requires { length a.now ≡ 2 * (n * n) }
     ensures { result ≡ spec.scale_of n (entries a.now) }
 {
-    let end = n * n;
     let mut s = 0.0;
-    for k in 0..end {
+    for k in 0..n * n {
         s = widen(entries::get(a, k), s);
     }
-    numbers::max_of(s, f64::from_bits(0x0010_0000_0000_0000))
+    numbers::max_of(s, f64::MIN_POSITIVE)
 }
 
-// Notes entry k anew: its bound, and that its magnitude is not known.
-fn note(a: &[f64], k: usize, bounds: &mut [f64], sizes: &mut [f64])
-    requires { (2 * k + 1 < length a.now) × (k < length bounds.old) × (k < length sizes.old) }
-    ensures { notes bounds.new sizes.new ≡ noted (entries a.now) k (notes bounds.old sizes.old) }
-{
-    bounds[k] = entries::get(a, k).bound();
-    sizes[k] = -1.0;
-}
-
-// Notes all entries of the n by n matrix in a.
-pub fn measure(a: &[f64], n: usize, bounds: &mut [f64], sizes: &mut [f64])
-    requires { (length a.now ≡ 2 * (n * n)) × (length bounds.old ≡ n * n) × (length sizes.old ≡ n * n) }
-    ensures { notes bounds.new sizes.new ≡ measured n (entries a.now) (notes bounds.old sizes.old) }
-{
-    let end = sizes.len();
-    for k in 0..end {
-        note(a, k, bounds, sizes);
+impl Pivot {
+    // Place (i, j) instead, where its magnitude x is larger.
+    fn or(self, x: f64, i: usize, j: usize) -> Pivot
+        ensures { result ≡ spec.larger x i j self }
+    {
+        if self.best < x {
+            return Pivot {
+                best: x,
+                p: i,
+                q: j,
+            };
+        }
+        self
     }
 }
 
-// Notes what row and column c have above the diagonal in column or row k.
-fn note_cross(a: &[f64], n: usize, c: usize, k: usize, bounds: &mut [f64], sizes: &mut [f64])
-    requires { (length a.now ≡ 2 * (n * n)) × (length bounds.old ≡ n * n) × (length sizes.old ≡ n * n) × (c < n) × (k < n) }
-    ensures { notes bounds.new sizes.new ≡ noted_cross n (entries a.now) c k (notes bounds.old sizes.old) }
-{
-    if k < c {
-        note(a, k * n + c, bounds, sizes);
-        return;
-    }
-    if c < k {
-        note(a, c * n + k, bounds, sizes);
-        return;
-    }
-}
-
-// Notes row and column c.
-pub fn renote(a: &[f64], n: usize, c: usize, bounds: &mut [f64], sizes: &mut [f64])
-    requires { (length a.now ≡ 2 * (n * n)) × (length bounds.old ≡ n * n) × (length sizes.old ≡ n * n) × (c < n) }
-    ensures { notes bounds.new sizes.new ≡ renoted n (entries a.now) c (notes bounds.old sizes.old) }
-{
-    for k in 0..n {
-        note_cross(a, n, c, k, bounds, sizes);
-    }
-}
-
-// g, or place (i, j) where its magnitude x is larger.
-fn larger(x: f64, i: usize, j: usize, g: Pivot) -> Pivot
-    ensures { result ≡ spec.larger x i j g }
-{
-    if g.best < x {
-        return Pivot {
-            best: x,
-            p: i,
-            q: j,
+impl<const N: usize> Notes<N> {
+    // Notes all entries of the n by n matrix in a.
+    pub fn of(a: &[f64], n: usize) -> Self
+        requires { (length a.now ≡ 2 * (n * n)) × (n * n ≤ N) }
+        ensures { result ≡ measured n (entries a.now) blank }
+    {
+        let mut notes = Notes {
+            bounds: [0.0; N],
+            sizes: [0.0; N],
         };
+        for k in 0..n * n {
+            notes.note(a, k);
+        }
+        notes
     }
-    g
-}
 
-// The same by what is noted of entry k, which stands there.
-fn look(
-    a: &[f64],
-    k: usize,
-    i: usize,
-    j: usize,
-    g: Pivot,
-    bounds: &mut [f64],
-    sizes: &mut [f64],
-) -> Pivot
-    requires { (2 * k + 1 < length a.now) × (k < length bounds.old) × (k < length sizes.old) }
-    ensures { found result bounds.new sizes.new ≡ looked (entries a.now) k i j (found g bounds.old sizes.old) }
-{
-    if bounds[k] <= g.best {
-        return g;
+    // Notes entry k anew: its bound, and that its magnitude is not known.
+    fn note(&mut self, a: &[f64], k: usize)
+        requires { (2 * k + 1 < length a.now) × (k < N) }
+        ensures { self.new ≡ noted (entries a.now) k self.old }
+    {
+        self.bounds[k] = entries::get(a, k).bound();
+        self.sizes[k] = -1.0;
     }
-    let known = sizes[k];
-    if known < 0.0 {
-        let x = entries::get(a, k).magnitude();
-        bounds[k] = x;
-        sizes[k] = x;
-        return larger(x, i, j, g);
-    }
-    larger(known, i, j, g)
-}
 
-// Row i, right of the diagonal.
-fn look_in(a: &[f64], n: usize, i: usize, g: Pivot, bounds: &mut [f64], sizes: &mut [f64]) -> Pivot
-    requires { (length a.now ≡ 2 * (n * n)) × (length bounds.old ≡ n * n) × (length sizes.old ≡ n * n) × (i < n) }
-    ensures { found result bounds.new sizes.new ≡ looked_in n (entries a.now) i (found g bounds.old sizes.old) }
-{
-    let width = n - (i + 1);
-    let mut t = g;
-    for d in 0..width {
-        let j = i + 1 + d;
-        t = look(a, i * n + j, i, j, t, bounds, sizes);
+    // Notes what row and column c have above the diagonal in column or row k.
+    fn note_cross(&mut self, a: &[f64], n: usize, c: usize, k: usize)
+        requires { (length a.now ≡ 2 * (n * n)) × (n * n ≤ N) × (c < n) × (k < n) }
+        ensures { self.new ≡ noted_cross n (entries a.now) c k self.old }
+    {
+        if k < c {
+            self.note(a, k * n + c);
+        } else if c < k {
+            self.note(a, c * n + k);
+        }
     }
-    t
-}
 
-// The first of the largest magnitudes above the diagonal.
-pub fn find(a: &[f64], n: usize, bounds: &mut [f64], sizes: &mut [f64]) -> Pivot
-    requires { (length a.now ≡ 2 * (n * n)) × (length bounds.old ≡ n * n) × (length sizes.old ≡ n * n) }
-    ensures { found result bounds.new sizes.new ≡ searched n (entries a.now) (notes bounds.old sizes.old) }
-{
-    let mut g = Pivot {
-        best: 0.0,
-        p: 0,
-        q: 0,
-    };
-    for i in 0..n {
-        g = look_in(a, n, i, g, bounds, sizes);
+    // Notes row and column c.
+    pub fn renote(&mut self, a: &[f64], n: usize, c: usize)
+        requires { (length a.now ≡ 2 * (n * n)) × (n * n ≤ N) × (c < n) }
+        ensures { self.new ≡ renoted n (entries a.now) c self.old }
+    {
+        for k in 0..n {
+            self.note_cross(a, n, c, k);
+        }
     }
-    g
+
+    // g, or place (i, j) where its magnitude is larger, by what is noted of the entry there.
+    fn look(&mut self, a: &[f64], n: usize, i: usize, j: usize, g: Pivot) -> Pivot
+        requires { (length a.now ≡ 2 * (n * n)) × (n * n ≤ N) × (i < n) × (j < n) }
+        ensures { found result self.new ≡ looked (entries a.now) (i * n + j) i j (found g self.old) }
+    {
+        let k = i * n + j;
+        if self.bounds[k] <= g.best {
+            return g;
+        }
+        let known = self.sizes[k];
+        if known < 0.0 {
+            let x = entries::get(a, k).magnitude();
+            self.bounds[k] = x;
+            self.sizes[k] = x;
+            return g.or(x, i, j);
+        }
+        g.or(known, i, j)
+    }
+
+    // Row i, right of the diagonal.
+    fn look_in(&mut self, a: &[f64], n: usize, i: usize, mut g: Pivot) -> Pivot
+        requires { (length a.now ≡ 2 * (n * n)) × (n * n ≤ N) × (i < n) }
+        ensures { found result self.new ≡ looked_in n (entries a.now) i (found g self.old) }
+    {
+        for j in i + 1..n {
+            g = self.look(a, n, i, j, g);
+        }
+        g
+    }
+
+    // The first of the largest magnitudes above the diagonal.
+    pub fn find(&mut self, a: &[f64], n: usize) -> Pivot
+        requires { (length a.now ≡ 2 * (n * n)) × (n * n ≤ N) }
+        ensures { found result self.new ≡ searched n (entries a.now) self.old }
+    {
+        let mut g = Pivot {
+            best: 0.0,
+            p: 0,
+            q: 0,
+        };
+        for i in 0..n {
+            g = self.look_in(a, n, i, g);
+        }
+        g
+    }
 }

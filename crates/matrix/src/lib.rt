@@ -1,24 +1,52 @@
-// Products of vectors and matrices that lie by rows in slices of numbers. Each is written once, for every size. The sizes of one and two qubits, 4 and 16,
-// are passed on as constants, so that the compiler unrolls their loops and keeps a row in registers.
+// Products of vectors and matrices that lie by rows in slices of numbers. Each is written once, for every size.
 #![tactic(auto)]
 
-ghost use Rattle.std.specs.Prelude.{◌≡◌, ◌++◌, ◌+◌, ◌*◌, ◌≤◌, ◌<◌, length, take, drop};
+ghost use Rattle.std.specs.Prelude.{◌≡◌, ◌++◌, ◌+◌, ◌*◌, ◌^◌, ◌≤◌, ◌<◌, length, take, drop};
+ghost use Rattle.std.specs.List.{fold, zip};
 ghost use Rattle.lists.specs.Build.{build};
-ghost use Rattle.numbers.specs.Number.{minus_zero_f, ◌+ᶠ◌, ◌*ᶠ◌};
+ghost use Rattle.numbers.specs.Number.{◌+ᶠ◌, ◌*ᶠ◌};
 ghost use Rattle.numbers.specs.Slice.{at};
 ghost use Rattle.matrix.specs.Product.{cell, dot_of, mat_vec_of, row_mat_of, mat_mul_of, transposed_of};
 
-// a · b, over the entries of a.
+use std::ops::Range;
+
+// Calls f at the size n and `out`. The sizes of one and two qubits, 4 and 16, are passed on as constants, so that the compiler unrolls the loops of f
+// and keeps a row in registers.
+pub fn by_size<R, F: Fn(usize, &mut [f64]) -> R>(n: usize, out: &mut [f64], f: F) -> R
+    requires { (y : _) → y.now ≡ out.old → F.pre f n y }
+    ensures { (y : _) × (z : _) × (y.now ≡ out.old) × F.post f n y result z × (out.new ≡ z.now) }
+{
+    if n == 16 {
+        return f(16, out);
+    }
+    if n == 4 {
+        return f(4, out);
+    }
+    f(n, out)
+}
+
+// The places of row i, where rows of w numbers lie one after the other.
+pub fn row(i: usize, w: usize) -> Range<usize>
+    requires { i * w + w < 2 ^ 64 }
+    ensures { (result.start ≡ i * w) × (result.end ≡ i * w + w) }
+{
+    let start = i * w;
+    start..start + w
+}
+
+// s and the products of the entries of a and b, added up one after the other.
+fn with_products(s: f64, a: &[f64], b: &[f64]) -> f64
+    ensures { result ≡ fold (λ s p. s +ᶠ p.0 *ᶠ p.1) s (zip a.now b.now) }
+{
+    a.iter().zip(b).fold(s, |s, (x, y)| s + x * y)
+}
+
+// a · b, over the entries of a. b is cut to their number, so that the compiler sees one bound.
 pub fn dot(a: &[f64], b: &[f64]) -> f64
     requires { length a.now ≤ length b.now }
     ensures { result ≡ dot_of (length a.now) a.now b.now }
 {
-    let n = a.len();
-    let mut s = -0.0;
-    for k in 0..n {
-        s = s + a[k] * b[k];
-    }
-    s
+    with_products(-0.0, a, &b[..a.len()])
 }
 
 // Row after row of a, times x.
@@ -26,10 +54,8 @@ fn mat_vec_of(a: &[f64], x: &[f64], n: usize, out: &mut [f64])
     requires { (n ≤ 16) × (n * n ≤ length a.now) × (n ≤ length x.now) × (n ≤ length out.old) }
     ensures { out.new ≡ mat_vec_of n a.now x.now ++ drop n out.old }
 {
-    for i in 0..n {
-        let start = i * n;
-        let end = start + n;
-        out[i] = dot(&a[start..end], x);
+    for (i, y) in out[..n].iter_mut().enumerate() {
+        *y = dot(&a[row(i, n)], x);
     }
 }
 
@@ -38,25 +64,7 @@ pub fn mat_vec(a: &[f64], x: &[f64], n: usize, out: &mut [f64])
     requires { (n ≤ 16) × (n * n ≤ length a.now) × (n ≤ length x.now) × (n ≤ length out.old) }
     ensures { out.new ≡ mat_vec_of n a.now x.now ++ drop n out.old }
 {
-    if n == 16 {
-        mat_vec_of(a, x, 16, out);
-        return;
-    }
-    if n == 4 {
-        mat_vec_of(a, x, 4, out);
-        return;
-    }
-    mat_vec_of(a, x, n, out);
-}
-
-// Sets every number of the row to -0, where sums start.
-fn start_row(row: &mut [f64])
-    ensures { row.new ≡ build (length row.old) (λ _. minus_zero_f) }
-{
-    let n = row.len();
-    for j in 0..n {
-        row[j] = -0.0;
-    }
+    by_size(n, out, |n, out| mat_vec_of(a, x, n, out))
 }
 
 // Adds f times another row.
@@ -64,34 +72,30 @@ fn add_row(row: &mut [f64], f: f64, other: &[f64])
     requires { length row.old ≤ length other.now }
     ensures { row.new ≡ build (length row.old) (λ j. at row.old j +ᶠ f *ᶠ at other.now j) }
 {
-    let n = row.len();
-    for j in 0..n {
-        row[j] = row[j] + f * other[j];
+    for (j, x) in row.iter_mut().enumerate() {
+        *x += f * other[j];
     }
 }
 
 // The rows of a, each times its number of x, added up row by row: for each entry the same sum in the same order.
-fn add_rows(x: &[f64], a: &[f64], n: usize, row: &mut [f64])
-    requires { (n ≤ 16) × (n ≤ length x.now) × (n * n ≤ length a.now) × (length row.old ≡ n) }
-    ensures { row.new ≡ row_mat_of n x.now a.now }
+fn add_rows(x: &[f64], a: &[f64], n: usize, sums: &mut [f64])
+    requires { (n ≤ 16) × (n ≤ length x.now) × (n * n ≤ length a.now) × (length sums.old ≡ n) }
+    ensures { sums.new ≡ row_mat_of n x.now a.now }
 {
-    start_row(row);
-    for i in 0..n {
-        let start = i * n;
-        let end = start + n;
-        add_row(row, x[i], &a[start..end]);
+    sums.fill(-0.0);
+    for (i, f) in x[..n].iter().enumerate() {
+        add_row(sums, *f, &a[row(i, n)]);
     }
 }
 
-// Writes the row over with the front of `from`.
-pub fn put_row(row: &mut [f64], from: &[f64])
-    requires { length row.old ≤ length from.now }
-    ensures { row.new ≡ take (length row.old) from.now }
+// The same, in a local array, which no other slice overlaps.
+fn sums_of(x: &[f64], a: &[f64], n: usize) -> [f64; 16]
+    requires { (n ≤ 16) × (n ≤ length x.now) × (n * n ≤ length a.now) }
+    ensures { take n result ≡ row_mat_of n x.now a.now }
 {
-    let w = row.len();
-    for j in 0..w {
-        row[j] = from[j];
-    }
+    let mut sums = [0.0; 16];
+    add_rows(x, a, n, &mut sums[..n]);
+    sums
 }
 
 // The row x times the matrix a, in place.
@@ -99,35 +103,10 @@ pub fn row_times(x: &mut [f64], a: &[f64], n: usize)
     requires { (n ≤ 16) × (length x.old ≡ n) × (n * n ≤ length a.now) }
     ensures { x.new ≡ row_mat_of n x.old a.now }
 {
-    let mut sums = [0.0f64; 16];
-    add_rows(x, a, n, &mut sums[..n]);
-    put_row(x, &sums);
-}
-
-// The same, with the sums in a local array, which no other slice overlaps.
-fn sum_rows(x: &[f64], a: &[f64], n: usize, row: &mut [f64])
-    requires { (n ≤ 16) × (n ≤ length x.now) × (n * n ≤ length a.now) × (length row.old ≡ n) }
-    ensures { row.new ≡ row_mat_of n x.now a.now }
-{
-    let mut sums = [0.0f64; 16];
-    add_rows(x, a, n, &mut sums[..n]);
-    put_row(row, &sums);
-}
-
-// The same, by size.
-fn row_mat_of(x: &[f64], a: &[f64], n: usize, row: &mut [f64])
-    requires { (n ≤ 16) × (n ≤ length x.now) × (n * n ≤ length a.now) × (length row.old ≡ n) }
-    ensures { row.new ≡ row_mat_of n x.now a.now }
-{
-    if n == 16 {
-        sum_rows(x, a, 16, row);
-        return;
-    }
-    if n == 4 {
-        sum_rows(x, a, 4, row);
-        return;
-    }
-    sum_rows(x, a, n, row);
+    by_size(n, x, |n, x| {
+        let sums = sums_of(x, a, n);
+        x.copy_from_slice(&sums[..n]);
+    })
 }
 
 // The row x times the matrix a, into the first n numbers of `out`.
@@ -135,7 +114,19 @@ pub fn row_mat(x: &[f64], a: &[f64], n: usize, out: &mut [f64])
     requires { (n ≤ 16) × (n ≤ length x.now) × (n * n ≤ length a.now) × (n ≤ length out.old) }
     ensures { out.new ≡ row_mat_of n x.now a.now ++ drop n out.old }
 {
-    row_mat_of(x, a, n, &mut out[..n]);
+    by_size(
+        n,
+        out,
+        |n, out| out[..n].copy_from_slice(&sums_of(x, a, n)[..n]),
+    )
+}
+
+// Writes the row over with the front of `from`.
+pub fn put_row(row: &mut [f64], from: &[f64])
+    requires { length row.old ≤ length from.now }
+    ensures { row.new ≡ take (length row.old) from.now }
+{
+    row.copy_from_slice(&from[..row.len()]);
 }
 
 // Row after row of a, times b.
@@ -144,9 +135,8 @@ fn mat_mul_of(a: &[f64], b: &[f64], n: usize, out: &mut [f64])
     ensures { out.new ≡ mat_mul_of n a.now b.now ++ drop (n * n) out.old }
 {
     for i in 0..n {
-        let start = i * n;
-        let end = start + n;
-        sum_rows(&a[start..end], b, n, &mut out[start..end]);
+        let sums = sums_of(&a[row(i, n)], b, n);
+        out[row(i, n)].copy_from_slice(&sums[..n]);
     }
 }
 
@@ -155,15 +145,7 @@ pub fn mat_mul(a: &[f64], b: &[f64], n: usize, out: &mut [f64])
     requires { (n ≤ 16) × (n * n ≤ length a.now) × (n * n ≤ length b.now) × (n * n ≤ length out.old) }
     ensures { out.new ≡ mat_mul_of n a.now b.now ++ drop (n * n) out.old }
 {
-    if n == 16 {
-        mat_mul_of(a, b, 16, out);
-        return;
-    }
-    if n == 4 {
-        mat_mul_of(a, b, 4, out);
-        return;
-    }
-    mat_mul_of(a, b, n, out);
+    by_size(n, out, |n, out| mat_mul_of(a, b, n, out))
 }
 
 // Column j of the matrix a.
@@ -171,8 +153,8 @@ fn put_column(a: &[f64], n: usize, j: usize, row: &mut [f64])
     requires { (n ≤ 16) × (n * n ≤ length a.now) × (j < n) × (length row.old ≡ n) }
     ensures { row.new ≡ build n (λ i. cell n a.now i j) }
 {
-    for i in 0..n {
-        row[i] = a[i * n + j];
+    for (i, x) in row.iter_mut().enumerate() {
+        *x = a[i * n + j];
     }
 }
 
@@ -182,9 +164,7 @@ fn transpose_of(a: &[f64], n: usize, out: &mut [f64])
     ensures { out.new ≡ transposed_of n a.now ++ drop (n * n) out.old }
 {
     for j in 0..n {
-        let start = j * n;
-        let end = start + n;
-        put_column(a, n, j, &mut out[start..end]);
+        put_column(a, n, j, &mut out[row(j, n)]);
     }
 }
 
@@ -193,9 +173,5 @@ pub fn transpose(a: &[f64], n: usize, out: &mut [f64])
     requires { (n ≤ 16) × (n * n ≤ length a.now) × (n * n ≤ length out.old) }
     ensures { out.new ≡ transposed_of n a.now ++ drop (n * n) out.old }
 {
-    if n == 16 {
-        transpose_of(a, 16, out);
-        return;
-    }
-    transpose_of(a, n, out);
+    by_size(n, out, |n, out| transpose_of(a, n, out))
 }

@@ -1,4 +1,5 @@
 -- A model whose test finds nothing has finite numbers. Assumes nothing.
+use Rattle.refusal.specs.Verdicts.{good}
 use Prim.Native.Nat.{ℕ, zero, suc, ◌<◌}
 use mathlib.Core.Path.{◌≡◌, sym, subst}
 use mathlib.Core.Bool.{Bool, true, false, not}
@@ -10,7 +11,6 @@ use lib.Dec.{eqb}
 use Rattle.lists.specs.Fold.{fold}
 use Rattle.booleans.proofs.Joined.{neither}
 use Rattle.numbers.specs.Slice.{all_finite}
-use Rattle.refusal.specs.declared.Verdict.TheVariants.{Good}
 use Rattle.refusal.proofs.Verdicts.{passed}
 use Rattle.card_layout.specs.declared.Header.{Header}
 use Rattle.card_parts.specs.Model.{state_of, effect_of, gate_of}
@@ -25,7 +25,7 @@ none_of b (suc n) p e =
     let r = none_of b n p k.0 in
     (r.0, λ i l. ⊎_elim (λ (q : i ≡ n). subst (λ (j : ℕ). p j ≡ false) (sym q) k.1) (λ (q : i < n). r.1 i q) (eq-or-lt_of_le (le_of_suc-le-suc l)))
 
-module _ (s : List ℕ) (h : Header) (e : checked_of s h ≡ Good) where
+module _ (s : List ℕ) (h : Header) (e : checked_of s h ≡ good) where
   numbers-passed : (all_finite (state_of s h) ≡ true) × (bad_gate (on_card s h) ≡ false)
   unfolding checked_of
   numbers-passed =

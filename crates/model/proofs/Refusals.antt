@@ -6,6 +6,7 @@ use mathlib.Core.List.{List}
 use borrow.Author.Tests.{eqb-false}
 use lib.Dec.{eqb}
 use Rattle.numbers.specs.Slice.{all_finite}
+use Rattle.refusal.specs.declared.Reason.TheVariants.{Name}
 use Rattle.refusal.specs.declared.Refusal.TheVariants.{Shape, NonFinite, InvalidGstOptimization}
 use Rattle.refusal.proofs.Lower.{Lower, lower-good, lower-refused, lower-either}
 use Rattle.card_layout.specs.declared.Header.{Header}
@@ -18,7 +19,7 @@ lower-tested m =
     (lower-either (not (all_finite m.state)) n
     (lower-either (eqb m.effects 0) (lower-refused (Shape m.dimension 0) (eqb-false 2 16 refl))
     (lower-either (bad_gate m) n
-    (lower-either (any_of false m.gates (bad_name m.name)) (lower-refused (InvalidGstOptimization 6) (eqb-false 13 16 refl)) lower-good))))
+    (lower-either (any_of false m.gates (bad_name m.name)) (lower-refused (InvalidGstOptimization Name) (eqb-false 13 16 refl)) lower-good))))
 
 pub lower-model : (s : List ℕ) (h : Header) → Lower (checked_of s h)
 unfolding checked_of

@@ -1,20 +1,27 @@
 -- A word whose first byte shows that its number is finite. Assumes nothing.
-use Prim.Native.Nat.{ℕ, ◌+◌, ◌*◌, ◌%◌, ◌<◌}
+use Prim.Native.Nat.{ℕ, zero, suc, ◌+◌, ◌*◌, ◌%◌, ◌<◌}
 use mathlib.Core.Path.{◌≡◌, refl, sym, ap, ◌∙◌}
-use mathlib.Core.Bool.{true}
-use mathlib.Core.List.{List}
-use native.Mathlib.Nat.{add-zero}
+use mathlib.Core.Bool.{true, ◌&&◌}
+use mathlib.Core.List.{List, [], ◌∷◌}
+use native.Mathlib.Nat.{add-zero, zero-mul, suc-mul}
+use native.Mathlib.Numerals.{add-one}
 use native.Mathlib.Omega.{arith}
 use lib.Bits.{bit_or, or_mod, or_add_and, and_le_l, and_le_r}
 use lib.ListN.{get_or}
-use borrow.Author.Tests.{lt-ltb}
+use borrow.Author.Tests.{lt-ltb, ltb-true}
+use Rattle.std.specs.List.{list_all, range_with_len}
+use Rattle.std.proofs.lemmas.List.Folds.{list_all-append}
+use Rattle.booleans.proofs.Joined.{and_both}
+use Rattle.lists.specs.Build.{build}
+use Rattle.lists.proofs.Filling.{build-suc}
+use Rattle.lists.proofs.Chains.{build-range}
 use Rattle.lists.specs.Fold.{fold}
 use Rattle.numbers.specs.Number.{finite}
 use Rattle.numbers.specs.Word.{word_at}
 use Rattle.numbers.specs.Slice.{number_at, numbers_at, all_finite}
 use Rattle.numbers.proofs.Leaves.{finite-word}
-use Rattle.model.specs.Shown.{first_bytes}
-use Rattle.model.proofs.Fours.{four-last, run_on}
+use Rattle.model.specs.Shown.{first_bytes, eight_shown}
+use Rattle.model.proofs.Fours.{four-last, run_none, run_on}
 
 -- the first byte above seven others
 below : (a r : ℕ) → r < 0x100_0000_0000_0000 → a % 128 < 127 → (a * 0x100_0000_0000_0000 + r) % 0x8000_0000_0000_0000 < 0x7ff0_0000_0000_0000
@@ -50,7 +57,20 @@ module _ (s : List ℕ) (bytes : (i : ℕ) → get_or s i 0 < 256) where
       let k = each_below (get_or s ((p + 2) * 8) 0) (get_or s ((p + 3) * 8) 0) f.1 in
       four-last s p true (shown-finite p g.0) (shown-finite (p + 1) g.1) (shown-finite (p + 2) k.0) (sym (shown-finite (p + 3) k.1))
 
-  pub eight-shown : (p : ℕ) → bit_or (first_bytes s p) (first_bytes s (p + 4)) % 128 < 127 → true ≡ all_finite (numbers_at s p 8)
-  eight-shown p h =
-      let f = each_below (first_bytes s p) (first_bytes s (p + 4)) h in
+  eight-shown : (p : ℕ) → eight_shown s p ≡ true → true ≡ all_finite (numbers_at s p 8)
+  unfolding eight_shown
+  eight-shown p e =
+      let f = each_below (first_bytes s p) (first_bytes s (p + 4)) (ltb-true _ _ e) in
       run_on s p 4 4 8 true refl (sym (four-shown p f.0)) (four-shown (p + 4) f.1)
+
+  eights-listed : (p n : ℕ) → list_all (λ i. eight_shown s (p + i * 8)) (build n (λ i. i)) ≡ true → true ≡ all_finite (numbers_at s p (n * 8))
+  eights-listed p zero e = rw zero-mul (sym (run_none s p))
+  eights-listed p (suc n) e =
+      let q = λ (i : ℕ). eight_shown s (p + i * 8) in
+      let l : list_all q (build (suc n) (λ i. i)) ≡ (list_all q (build n (λ i. i)) && (q n && true)) = ap (λ (k : ℕ). list_all q (build k (λ i. i))) (sym (add-one n)) ∙ ap (list_all q) (build-suc n (λ i. i)) ∙ list_all-append q (build n (λ i. i)) (n ∷ []) in
+      let b = and_both (list_all q (build n (λ i. i))) (q n && true) (sym l ∙ e) in
+      run_on s p (n * 8) 8 (suc n * 8) true (suc-mul n 8) (sym (eights-listed p n b.0)) (eight-shown (p + n * 8) (and_both (q n) true b.1).0)
+
+  -- `(0..n).all(eight_shown)`
+  pub eights-shown : (p n : ℕ) → list_all (λ i. eight_shown s (p + i * 8)) (range_with_len 0 n) ≡ true → true ≡ all_finite (numbers_at s p (n * 8))
+  eights-shown p n e = eights-listed p n (sym (ap (list_all (λ i. eight_shown s (p + i * 8))) (build-range n)) ∙ e)

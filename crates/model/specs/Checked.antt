@@ -1,12 +1,12 @@
 -- A model as the Rust's `GateSetModel::try_new` tests it, in its order (document 01: kinds 5 to 7).
-use Rattle.std.specs.Prelude.{ℕ, Bool, false, cond, not, ◌||◌, List, eqb, Float}
+use Rattle.refusal.specs.Verdicts.{good, Verdict}
+use Rattle.std.specs.Prelude.{Err, ℕ, Bool, false, cond, not, ◌||◌, List, eqb, Float}
 use Rattle.lists.specs.Fold.{fold}
 use Rattle.numbers.specs.Slice.{all_finite}
+use Rattle.refusal.specs.declared.Reason.TheVariants.{Name}
 use Rattle.refusal.specs.declared.Refusal.TheVariants.{Shape, NonFinite, InvalidGstOptimization}
 use Rattle.card_layout.specs.declared.Header.{Header}
 use Rattle.card_parts.specs.Model.{state_of, effect_of, gate_of, name_of}
-use Rattle.refusal.specs.declared.Verdict.{Verdict}
-use Rattle.refusal.specs.declared.Verdict.TheVariants.{Good, Refused}
 
 -- b, or p of some index below n
 unfoldable pub any_of : Bool → ℕ → (ℕ → Bool) → Bool
@@ -36,12 +36,12 @@ bad_gate m = any_of (bad_effect m) m.gates (λ g. not (all_finite (m.gate g)))
 -- no state or one that is not finite; no effects; other numbers that are not finite; names
 abbrev pub tested_of : Parts → Verdict
 tested_of m =
-    cond (eqb m.dimension 0) (Refused NonFinite)
-    (cond (not (all_finite m.state)) (Refused NonFinite)
-    (cond (eqb m.effects 0) (Refused (Shape m.dimension 0))
-    (cond (bad_gate m) (Refused NonFinite)
-    (cond (any_of false m.gates (bad_name m.name)) (Refused (InvalidGstOptimization 6))
-    Good))))
+    cond (eqb m.dimension 0) (Err NonFinite)
+    (cond (not (all_finite m.state)) (Err NonFinite)
+    (cond (eqb m.effects 0) (Err (Shape m.dimension 0))
+    (cond (bad_gate m) (Err NonFinite)
+    (cond (any_of false m.gates (bad_name m.name)) (Err (InvalidGstOptimization Name))
+    good))))
 
 -- the model of a card
 abbrev pub on_card : List ℕ → Header → Parts

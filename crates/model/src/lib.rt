@@ -4,16 +4,14 @@
 ghost use Rattle.std.specs.Prelude.{◌≡◌, ◌+◌, ◌*◌, ◌≤◌, ◌<◌, length, true, false};
 ghost use Rattle.numbers.specs.Slice.{numbers_at, all_finite};
 ghost use Rattle.card_places.specs.Shape.{Shaped};
-ghost use Rattle.card_parts.specs.Model.{name_of};
-ghost use Rattle.model.specs.Shown.{first_bytes};
-ghost use Rattle.model.specs.Checked.{bad_name, bad_effect, bad_gate, any_of, on_card, checked_of};
+ghost use Rattle.model.specs.Shown.{first_bytes, eight_shown};
+ghost use Rattle.model.specs.Checked.{Parts, bad_name, bad_effect, bad_gate, any_of, tested_of, on_card, checked_of};
 
-use booleans::either;
 use card_layout::Header;
-use card_parts::name_of;
+use card_parts::Card;
 use card_places::{effect_at, gate_at, model_at};
 use numbers::{is_finite_word, word_at};
-use refusal::{Refusal, Verdict};
+use refusal::{Reason, Refusal};
 use sizes::square;
 
 // The bits of the first bytes of four words together. Where they leave one of the exponent's seven clear, all four numbers are finite.
@@ -29,16 +27,9 @@ fn four_tested(card: &[u8], from: usize) -> bool
     requires { (from + 4) * 8 ≤ length card.now }
     ensures { result ≡ all_finite (numbers_at card.now from 4) }
 {
-    if !is_finite_word(word_at(card, from)) {
-        return false;
-    }
-    if !is_finite_word(word_at(card, from + 1)) {
-        return false;
-    }
-    if !is_finite_word(word_at(card, from + 2)) {
-        return false;
-    }
-    is_finite_word(word_at(card, from + 3))
+    is_finite_word(word_at(card, from))
+        & (is_finite_word(word_at(card, from + 1))
+            & (is_finite_word(word_at(card, from + 2)) & is_finite_word(word_at(card, from + 3))))
 }
 
 // The same. Of nearly all numbers the first bytes show it.
@@ -57,18 +48,13 @@ fn fours_finite(card: &[u8], from: usize, count: usize) -> bool
     requires { (from + count * 4) * 8 ≤ length card.now }
     ensures { result ≡ all_finite (numbers_at card.now from (count * 4)) }
 {
-    for i in 0..count {
-        if !four_finite(card, from + i * 4) {
-            return false;
-        }
-    }
-    true
+    (0..count).all(|i| four_finite(card, from + i * 4))
 }
 
 // Whether the first bytes of eight words show it, as they do of eight that are all below 2.
 fn eight_shown(card: &[u8], from: usize) -> bool
     requires { (from + 8) * 8 ≤ length card.now }
-    ensures { result ≡ true → true ≡ all_finite (numbers_at card.now from 8) }
+    ensures { result ≡ eight_shown card.now from }
 {
     (first_bytes(card, from) | first_bytes(card, from + 4)) % 128 < 127
 }
@@ -78,12 +64,7 @@ fn eights_shown(card: &[u8], from: usize, count: usize) -> bool
     requires { (from + count * 8) * 8 ≤ length card.now }
     ensures { result ≡ true → true ≡ all_finite (numbers_at card.now from (count * 8)) }
 {
-    for i in 0..count {
-        if !eight_shown(card, from + i * 8) {
-            return false;
-        }
-    }
-    true
+    (0..count).all(|i| eight_shown(card, from + i * 8))
 }
 
 // Whether n numbers are finite, one by one.
@@ -91,12 +72,7 @@ fn each_finite(card: &[u8], from: usize, n: usize) -> bool
     requires { (from + n) * 8 ≤ length card.now }
     ensures { result ≡ all_finite (numbers_at card.now from n) }
 {
-    for i in 0..n {
-        if !is_finite_word(word_at(card, from + i)) {
-            return false;
-        }
-    }
-    true
+    (0..n).all(|i| is_finite_word(word_at(card, from + i)))
 }
 
 // Four at a time, and the rest one by one.
@@ -104,12 +80,8 @@ fn are_finite_each(card: &[u8], from: usize, n: usize) -> bool
     requires { (from + n) * 8 ≤ length card.now }
     ensures { result ≡ all_finite (numbers_at card.now from n) }
 {
-    let fours = n / 4;
-    let done = fours * 4;
-    if !fours_finite(card, from, fours) {
-        return false;
-    }
-    each_finite(card, from + done, n - done)
+    let done = n / 4 * 4;
+    fours_finite(card, from, n / 4) & each_finite(card, from + done, n - done)
 }
 
 // Whether the n numbers from word `from` on are finite. Nearly always a look at their first bytes is enough.
@@ -117,89 +89,144 @@ pub fn are_finite(card: &[u8], from: usize, n: usize) -> bool
     requires { (from + n) * 8 ≤ length card.now }
     ensures { result ≡ all_finite (numbers_at card.now from n) }
 {
-    if n % 8 == 0 {
-        if eights_shown(card, from, n / 8) {
-            return true;
-        }
+    if n % 8 == 0 && eights_shown(card, from, n / 8) {
+        return true;
     }
     are_finite_each(card, from, n)
 }
 
-fn bad_effect(card: &[u8], h: Header) -> bool
-    requires { Shaped card.now h }
-    ensures { result ≡ bad_effect (on_card card.now h) }
-{
-    let count = h.effects;
-    let d = h.dimension;
-    let mut bad = false;
-    for k in 0..count {
-        bad = either(bad, !are_finite(card, effect_at(h, k), d));
-    }
-    bad
+// A model that can be tested, wherever its parts lie.
+pub trait Tested {
+    ghost parts: { Self → Parts };
+
+    // The state is where the test looks for it.
+    ghost has_state: { Self → Type 0 };
+
+    fn dimension(&self) -> usize
+        ensures { result ≡ (parts self.now).dimension };
+
+    fn effects(&self) -> usize
+        ensures { result ≡ (parts self.now).effects };
+
+    fn gates(&self) -> usize
+        ensures { result ≡ (parts self.now).gates };
+
+    fn is_state_finite(&self) -> bool
+        requires { has_state self.now }
+        ensures { result ≡ all_finite (parts self.now).state };
+
+    fn is_effect_finite(&self, k: usize) -> bool
+        requires { k < (parts self.now).effects }
+        ensures { result ≡ all_finite ((parts self.now).effect k) };
+
+    fn is_gate_finite(&self, g: usize) -> bool
+        requires { g < (parts self.now).gates }
+        ensures { result ≡ all_finite ((parts self.now).gate g) };
+
+    fn name(&self, g: usize) -> u64
+        requires { g < (parts self.now).gates }
+        ensures { result ≡ (parts self.now).name g };
 }
 
-fn bad_gate(card: &[u8], h: Header) -> bool
-    requires { Shaped card.now h }
-    ensures { result ≡ bad_gate (on_card card.now h) }
+fn bad_effect<M: Tested>(m: &M) -> bool
+    ensures { result ≡ bad_effect (M.parts m.now) }
 {
-    let count = h.gates;
-    let d = h.dimension;
-    let m = square(d);
-    let mut bad = bad_effect(card, h);
-    for g in 0..count {
-        bad = either(bad, !are_finite(card, gate_at(h, g), m));
-    }
-    bad
+    (0..m.effects()).any(|k| !m.is_effect_finite(k))
 }
 
-fn bad_name(card: &[u8], h: Header, g: usize) -> bool
-    requires { Shaped card.now h × (g < h.gates) }
-    ensures { result ≡ bad_name (name_of card.now h) g }
+fn bad_gate<M: Tested>(m: &M) -> bool
+    ensures { result ≡ bad_gate (M.parts m.now) }
 {
-    let name = name_of(card, h, g);
-    let mut bad = name == 0;
-    for j in 0..g {
-        bad = either(bad, name_of(card, h, j) == name);
-    }
-    bad
+    bad_effect(m) | (0..m.gates()).any(|g| !m.is_gate_finite(g))
 }
 
-fn bad_names(card: &[u8], h: Header) -> bool
-    requires { Shaped card.now h }
-    ensures { result ≡ any_of false h.gates (bad_name (name_of card.now h)) }
+fn bad_name<M: Tested>(m: &M, g: usize) -> bool
+    requires { g < (M.parts m.now).gates }
+    ensures { result ≡ bad_name (M.parts m.now).name g }
 {
-    let count = h.gates;
-    let mut bad = false;
-    for g in 0..count {
-        bad = either(bad, bad_name(card, h, g));
-    }
-    bad
+    let name = m.name(g);
+    (name == 0) | (0..g).any(|j| m.name(j) == name)
+}
+
+fn bad_names<M: Tested>(m: &M) -> bool
+    ensures { result ≡ any_of false (M.parts m.now).gates (bad_name (M.parts m.now).name) }
+{
+    (0..m.gates()).any(|g| bad_name(m, g))
 }
 
 // The Rust's `GateSetModel::try_new`.
-pub fn check_model(card: &[u8], h: Header) -> Verdict
-    requires { Shaped card.now h × (5 ≤ h.kind) }
-    ensures { result ≡ checked_of card.now h }
+pub fn check<M: Tested>(m: &M) -> Result<(), Refusal>
+    requires { M.has_state m.now }
+    ensures { result ≡ tested_of (M.parts m.now) }
 {
-    let d = h.dimension;
-    let effects = h.effects;
+    let d = m.dimension();
     if d == 0 {
-        return Verdict::Refused(Refusal::NonFinite);
+        return Err(Refusal::NonFinite);
     }
-    if !are_finite(card, model_at(h), d) {
-        return Verdict::Refused(Refusal::NonFinite);
+    if !m.is_state_finite() {
+        return Err(Refusal::NonFinite);
     }
+    let effects = m.effects();
     if effects == 0 {
-        return Verdict::Refused(Refusal::Shape {
+        return Err(Refusal::Shape {
             expected: d as u64,
             actual: 0,
         });
     }
-    if bad_gate(card, h) {
-        return Verdict::Refused(Refusal::NonFinite);
+    if bad_gate(m) {
+        return Err(Refusal::NonFinite);
     }
-    if bad_names(card, h) {
-        return Verdict::Refused(Refusal::InvalidGstOptimization(6));
+    if bad_names(m) {
+        return Err(Refusal::InvalidGstOptimization(Reason::Name));
     }
-    Verdict::Good
+    Ok(())
+}
+
+impl<'a> Tested for Card<'a> {
+    ghost parts = { λ c. on_card c.bytes.now c.header };
+
+    ghost has_state = { λ c. 5 ≤ c.header.kind };
+
+    fn dimension(&self) -> usize {
+        self.header.dimension
+    }
+
+    fn effects(&self) -> usize {
+        self.header.effects
+    }
+
+    fn gates(&self) -> usize {
+        self.header.gates
+    }
+
+    fn is_state_finite(&self) -> bool {
+        are_finite(self.bytes, model_at(self.header), self.header.dimension)
+    }
+
+    fn is_effect_finite(&self, k: usize) -> bool {
+        are_finite(self.bytes, effect_at(self.header, k), self.header.dimension)
+    }
+
+    fn is_gate_finite(&self, g: usize) -> bool {
+        are_finite(
+            self.bytes,
+            gate_at(self.header, g),
+            square(self.header.dimension),
+        )
+    }
+
+    fn name(&self, g: usize) -> u64 {
+        self.name_of(g)
+    }
+}
+
+// The same, of a card by its bytes and its header.
+pub fn check_model(card: &[u8], h: Header) -> Result<(), Refusal>
+    requires { Shaped card.now h × (5 ≤ h.kind) }
+    ensures { result ≡ checked_of card.now h }
+{
+    check(&Card {
+        bytes: card,
+        header: h,
+    })
 }

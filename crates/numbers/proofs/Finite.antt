@@ -1,6 +1,6 @@
--- All numbers of a list are finite: found from the front, and read off for each entry. Assumes nothing.
+-- All numbers of a list are finite: as a chain without a branch finds it, and read off for each entry. Assumes nothing.
 use Prim.Native.Nat.{ℕ, zero, suc, ◌+◌, ◌≤◌, ◌<◌}
-use mathlib.Core.Path.{◌≡◌, sym, ap, ◌∙◌}
+use mathlib.Core.Path.{◌≡◌, refl, sym, ap, ◌∙◌}
 use mathlib.Core.Bool.{Bool, true, false, ◌&&◌}
 use mathlib.Core.List.{List, [], ◌∷◌}
 use native.Mathlib.Numerals.{add-one}
@@ -8,9 +8,26 @@ use native.Mathlib.Nat.{not-suc-le-zero, le_of_suc-le-suc}
 use lib.ListN.{length, drop, drop_of_length-le}
 use lib.Seq.{drop-cons}
 use lib.Ieee.{Float, nan}
-use Rattle.booleans.proofs.Joined.{and-true, and_assoc, and_both}
+use Rattle.std.specs.List.{fold}
+use Rattle.std.proofs.lemmas.Bool.{and_parts}
 use Rattle.numbers.specs.Number.{finite}
 use Rattle.numbers.specs.Slice.{at, all_finite}
+
+-- `xs.iter().fold(true, |all, x| all & is_finite(*x))`
+pub all-chained : (a : Bool) (xs : List Float) → fold (λ b x. b && finite x) a xs ≡ (a && all_finite xs)
+unfolding all_finite
+all-chained true [] = refl
+all-chained false [] = refl
+all-chained true (x ∷ xs) = all-chained (finite x) xs
+all-chained false (x ∷ xs) = all-chained false xs
+
+pub each-finite : (xs : List Float) (i : ℕ) → all_finite xs ≡ true → i < length xs → finite (at xs i) ≡ true
+unfolding all_finite
+each-finite [] i e h = absurd (not-suc-le-zero h)
+each-finite (x ∷ xs) zero e h = (and_parts (finite x) (all_finite xs) e).0
+each-finite (x ∷ xs) (suc i) e h = each-finite xs i (and_parts (finite x) (all_finite xs) e).1 (le_of_suc-le-suc h)
+
+-- ---- a loop with a branch, from the front: `finite-stop` where it ends early, `finite-on` where it goes on, `finite-end` behind the last
 
 module _ (xs : List Float) (i : ℕ) (h : i < length xs) (e : all_finite xs ≡ all_finite (drop i xs)) where
   finite-at : all_finite xs ≡ (finite (at xs i) && all_finite (drop (suc i) xs))
@@ -26,20 +43,3 @@ module _ (xs : List Float) (i : ℕ) (h : i < length xs) (e : all_finite xs ≡ 
 pub finite-end : (xs : List Float) (i : ℕ) → length xs ≤ i → all_finite xs ≡ all_finite (drop i xs) → true ≡ all_finite xs
 unfolding all_finite
 finite-end xs i h e = sym (e ∙ ap all_finite (drop_of_length-le xs {i = i} h))
-
--- ---- without a branch: `a` says whether those before number i are finite
-
-pub finite-more : (xs : List Float) (i : ℕ) (a b f : Bool) → i < length xs → b ≡ (a && f) → f ≡ finite (at xs i) → (a && all_finite (drop i xs)) ≡ all_finite xs → (b && all_finite (drop (i + 1) xs)) ≡ all_finite xs
-unfolding all_finite
-finite-more xs i a b f h p q e =
-    rw (add-one, p, q) (and_assoc a (finite (at xs i)) (all_finite (drop (suc i) xs)) ∙ ap (λ (l : List Float). a && all_finite l) (sym (drop-cons xs i nan h)) ∙ e)
-
-pub finite-all : (xs : List Float) (i : ℕ) (a : Bool) → length xs ≤ i → (a && all_finite (drop i xs)) ≡ all_finite xs → a ≡ all_finite xs
-unfolding all_finite
-finite-all xs i a h e = sym (and-true a) ∙ ap (λ (l : List Float). a && all_finite l) (sym (drop_of_length-le xs {i = i} h)) ∙ e
-
-pub each-finite : (xs : List Float) (i : ℕ) → all_finite xs ≡ true → i < length xs → finite (at xs i) ≡ true
-unfolding all_finite
-each-finite [] i e h = absurd (not-suc-le-zero h)
-each-finite (x ∷ xs) zero e h = (and_both (finite x) (all_finite xs) e).0
-each-finite (x ∷ xs) (suc i) e h = each-finite xs i (and_both (finite x) (all_finite xs) e).1 (le_of_suc-le-suc h)

@@ -3,32 +3,29 @@ use mathlib.Core.Path.{◌≡◌, ◌∙◌}
 use mathlib.Core.Bool.{not}
 use mathlib.Core.List.{List, ◌++◌, append-nil}
 use Prim.Native.Nat.{ℕ, ◌%◌, ◌≤◌}
-use native.Mathlib.Nat.{le_trans}
 use native.Mathlib.Omega.{arith}
 use lib.Dec.{T}
-use lib.Bits.{bit_or, or_add_and, and_le_l, and_le_r}
+use lib.Bits.{bit_or}
+use Rattle.std.proofs.lemmas.Nat.{le_or_l, le_or_r}
 use lib.ListN.{length, drop, set, drop_of_length-le}
 use lib.Ieee.{Float, nan_bits, binary64}
 use Rattle.lists.proofs.Filling.{Filled, fill_none, fill_more}
 use Rattle.numbers.proofs.Leaves.{no-nan-word}
 
--- a word is no more than what it is ored into
-or_above : (a b : ℕ) → (a ≤ bit_or a b) × (b ≤ bit_or a b)
-or_above a b = (omega (arith, or_add_and a b, and_le_r a b), omega (arith, or_add_and a b, and_le_l a b))
-
--- what is no more than t is no NaN
-module _ (t : ℕ) (h : t ≤ 0x7ff0_0000_0000_0000) where
-  no-nan-below : (w : ℕ) → w % 0x8000_0000_0000_0000 ≤ t → T (not (nan_bits binary64 w))
-  no-nan-below w l = no-nan-word w (le_trans l h)
-
 -- so where four words ored are no more than infinity's, none of them is
 pub none-nan : (a b c d : ℕ) {t : ℕ} → t ≡ bit_or (bit_or (a % 0x8000_0000_0000_0000) (b % 0x8000_0000_0000_0000)) (bit_or (c % 0x8000_0000_0000_0000) (d % 0x8000_0000_0000_0000)) → t ≤ 0x7ff0_0000_0000_0000
     → T (not (nan_bits binary64 a)) × T (not (nan_bits binary64 b)) × T (not (nan_bits binary64 c)) × T (not (nan_bits binary64 d))
 none-nan a b c d {t} e h =
-    let p = or_above (a % 0x8000_0000_0000_0000) (b % 0x8000_0000_0000_0000) in
-    let q = or_above (c % 0x8000_0000_0000_0000) (d % 0x8000_0000_0000_0000) in
-    let r = or_above (bit_or (a % 0x8000_0000_0000_0000) (b % 0x8000_0000_0000_0000)) (bit_or (c % 0x8000_0000_0000_0000) (d % 0x8000_0000_0000_0000)) in
-    (no-nan-below t h a (rw e (le_trans p.0 r.0)), no-nan-below t h b (rw e (le_trans p.1 r.0)), no-nan-below t h c (rw e (le_trans q.0 r.1)), no-nan-below t h d (rw e (le_trans q.1 r.1)))
+    let m : ℕ → ℕ = λ w. w % 0x8000_0000_0000_0000 in
+    let ab : ℕ = bit_or (m a) (m b) in
+    let cd : ℕ = bit_or (m c) (m d) in
+    let l = le_or_l ab cd in
+    let r = le_or_r ab cd in
+    let la = le_or_l (m a) (m b) in
+    let lb = le_or_r (m a) (m b) in
+    let lc = le_or_l (m c) (m d) in
+    let ld = le_or_r (m c) (m d) in
+    (no-nan-word a (omega arith), no-nan-word b (omega arith), no-nan-word c (omega arith), no-nan-word d (omega arith))
 
 -- a list of four is all filled
 pub four-whole : (x d : List Float) {y : List Float} → length d ≡ 4 → y ≡ x ++ drop 4 d → y ≡ x

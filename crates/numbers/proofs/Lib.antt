@@ -1,5 +1,4 @@
 pub mod Leaves
-pub mod Vanishing
 pub mod Finite
 pub mod Products
 pub mod Slices

@@ -10,7 +10,7 @@ use lib.Ieee.{Float, nan, inf, fin, up, down, lt, le, below, level}
 use lib.Ieee.Fits.{down_pos}
 use lib.Ieee.Positive.{through}
 use borrow.Author.Tests.{ltb-true, eqb-true, le-ltb}
-use Rattle.booleans.proofs.Joined.{or_cases, and_both}
+use Rattle.std.proofs.lemmas.Bool.{or_cases, and_parts}
 use Rattle.numbers.specs.Number.{negative}
 use Rattle.numbers.proofs.Leaves.{clash}
 
@@ -20,13 +20,13 @@ plain-le a b r h = go (or_cases (ltb a b) (eqb a b && r) h)
   where
     go : (ltb a b ≡ true) ⊎ (eqb a b && r ≡ true) → a ≤ b
     go (inl e) = le_of_lt (ltb-true a b e)
-    go (inr e) = le_of_eq (eqb-true a b (and_both (eqb a b) r e).0)
+    go (inr e) = le_of_eq (eqb-true a b (and_parts (eqb a b) r e).0)
 
 -- a ≤ -b: both are zero
 zeros : (a b : ℕ) → eqb a b && eqb a 0 ≡ true → (a ≡ 0) × (b ≡ 0)
 zeros a b h =
-    let p : a ≡ b = eqb-true a b (and_both (eqb a b) (eqb a 0) h).0 in
-    let q : a ≡ 0 = eqb-true a 0 (and_both (eqb a b) (eqb a 0) h).1 in
+    let p : a ≡ b = eqb-true a b (and_parts (eqb a b) (eqb a 0) h).0 in
+    let q : a ≡ 0 = eqb-true a 0 (and_parts (eqb a b) (eqb a 0) h).1 in
     (q, omega arith)
 
 signed : (s t : Bool) (a b : ℕ) → below s a t b || level s a t b ≡ true → below t b s a ≡ false
@@ -37,7 +37,7 @@ signed true true a b h = go (or_cases (ltb b a) _ h)
   where
     go : (ltb b a ≡ true) ⊎ (eqb a b && true ≡ true) → ltb a b ≡ false
     go (inl e) = let l : b < a = ltb-true b a e in le-ltb a b (omega arith)
-    go (inr e) = let l : a ≡ b = eqb-true a b (and_both (eqb a b) true e).0 in le-ltb a b (omega arith)
+    go (inr e) = let l : a ≡ b = eqb-true a b (and_parts (eqb a b) true e).0 in le-ltb a b (omega arith)
 
 pub not-above : (x y : Float) → le x y ≡ true → lt y x ≡ false
 unfolding le lt

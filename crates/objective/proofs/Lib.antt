@@ -1,4 +1,3 @@
-pub mod Lending
 pub mod Maps
 pub mod Puts
 pub mod Distances

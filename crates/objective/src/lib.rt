@@ -1,59 +1,46 @@
 // What a fit makes of its coordinates: the model that has them, the objective, and the norm of a gradient.
 #![tactic(auto)]
 
-ghost use Rattle.std.specs.Prelude.{◌≡◌, map, length};
-ghost use Rattle.numbers.specs.Number.{◌-ᶠ◌, ◌*ᶠ◌};
+ghost use Rattle.std.specs.Prelude.{◌≡◌, length};
+ghost use Rattle.std.specs.List.{fold, zip};
+ghost use Rattle.numbers.specs.Number.{◌+ᶠ◌, ◌-ᶠ◌, ◌*ᶠ◌};
 ghost use Rattle.numbers.specs.Slice.{at};
 ghost use Rattle.root.specs.Root.{sqrt};
 ghost use Rattle.matrix.specs.Product.{sum_of};
 ghost use Rattle.model_words.specs.Words.{model_numbers, numbers_of};
 ghost use Rattle.descent.specs.Fit as spec;
-ghost use Rattle.objective.specs.Job.{job_by, Placed};
+ghost use Rattle.objective.specs.Tasks.{job_in};
 
-use card_layout::Header;
-use descent::GstOptimizerConfig;
+mod task;
+
+pub use task::{Task, Work};
 
 // The card's model with xs at the places: of two at one place the later wins.
-pub fn fill(card: &[u8], h: Header, places: &[usize], xs: &[f64], model: &mut [f64])
-    requires { Placed card.now h places.now × (length xs.now ≡ length places.now) × (length model.old ≡ model_numbers h) }
-    ensures { model.new ≡ spec.put places.now xs.now (numbers_of card.now h) }
+pub fn fill(t: &Task<'_>, xs: &[f64], model: &mut [f64])
+    requires { (length xs.now ≡ length t.now.places.now) × (length model.old ≡ model_numbers t.now.card.now.header) }
+    ensures { model.new ≡ spec.put t.now.places.now xs.now (numbers_of t.now.card.now.bytes.now t.now.card.now.header) }
 {
-    model_words::load_model(card, h, model);
-    let n = places.len();
-    for i in 0..n {
-        let place = places[i];
-        model[place] = xs[i];
+    model_words::load_model(t.card.bytes, t.card.header, model);
+    for (i, place) in t.places.iter().enumerate() {
+        model[*place] = xs[i];
     }
 }
 
-// The sum of squared distances from the anchor.
-fn distance(anchor: &[f64], xs: &[f64]) -> f64
-    requires { length xs.now ≡ length anchor.now }
-    ensures { result ≡ sum_of (length xs.now) (λ i. (at xs.now i -ᶠ at anchor.now i) *ᶠ (at xs.now i -ᶠ at anchor.now i)) }
+// s and the squared distances from the anchor, added up one after the other.
+fn with_distances(s: f64, xs: &[f64], anchor: &[f64]) -> f64
+    ensures { result ≡ fold (λ s p. s +ᶠ (p.0 -ᶠ p.1) *ᶠ (p.0 -ᶠ p.1)) s (zip xs.now anchor.now) }
 {
-    let n = xs.len();
-    let mut sum = -0.0;
-    for i in 0..n {
-        let v = xs[i] - anchor[i];
-        sum = sum + v * v;
-    }
-    sum
+    xs.iter()
+        .zip(anchor)
+        .fold(s, |s, (x, a)| s + (x - a) * (x - a))
 }
 
 // The objective of coordinates whose log-likelihood is known.
-pub fn objective(
-    card: &[u8],
-    h: Header,
-    places: &[usize],
-    c: GstOptimizerConfig,
-    anchor: &[f64],
-    likely: f64,
-    xs: &[f64],
-) -> f64
-    requires { (anchor.now ≡ map (at (numbers_of card.now h)) places.now) × (length xs.now ≡ length places.now) }
-    ensures { result ≡ spec.objective_of (job_by card.now h places.now c) likely xs.now }
+pub fn objective(t: &Task<'_>, likely: f64, xs: &[f64]) -> f64
+    requires { length xs.now ≡ length t.now.places.now }
+    ensures { result ≡ spec.objective_of (job_in t.now) likely xs.now }
 {
-    -likely + 0.5 * c.anchor_strength * distance(anchor, xs)
+    -likely + 0.5 * t.config.anchor_strength * with_distances(-0.0, xs, t.anchor)
 }
 
 // The Euclidean norm.

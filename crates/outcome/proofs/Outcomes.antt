@@ -1,10 +1,12 @@
 -- Outcomes carried from a call to its caller. Assumes nothing.
-use Prim.Native.Nat.{ℕ, ◌≤◌, ◌<◌}
-use mathlib.Core.Bool.{Bool, true, false, ◌&&◌}
+use Rattle.std.proofs.Common.{Ok, Err}
+use Rattle.refusal.specs.Verdicts.{good, Verdict}
+use Prim.Native.Nat.{ℕ, ◌≤◌}
+use mathlib.Core.Bool.{true, false}
 use mathlib.Core.Path.{◌≡◌, refl, sym, ap, subst, ◌∙◌}
 use mathlib.Core.List.{List, ◌++◌}
 use native.Mathlib.Omega.{arith}
-use borrow.Author.Tests.{leb-true, le-leb, lt-leb}
+use borrow.Author.Tests.{leb-true}
 use lib.Dec.{leb}
 use lib.ListN.{length, drop}
 use lib.Ieee.{Float}
@@ -16,29 +18,26 @@ use Rattle.numbers.specs.Slice.{words_of, blank}
 use Rattle.numbers.proofs.Slices.{length-words, words-front}
 use Rattle.refusal.specs.declared.Refusal.{Refusal}
 use Rattle.refusal.specs.declared.Refusal.TheVariants.{ShortBuffer}
-use Rattle.refusal.specs.declared.Verdict.{Verdict}
-use Rattle.refusal.specs.declared.Verdict.TheVariants as verdict
 use Rattle.outcome.specs.declared.Answer.{Answer}
-use Rattle.outcome.specs.declared.Answer.TheVariants.{Refused}
-use Rattle.outcome.specs.Outcome.{Outcome, refused, shown, Gives, roomy, in_room}
+use Rattle.outcome.specs.Outcome.{Answered, Outcome, refused, shown, Gives, roomy, in_room}
 
 -- a refusal leaves the result as it was
-pub stays : {o : Outcome} {r : Refusal} (l : List ℕ) → refused r ≡ o → Gives o l l (Refused r)
-stays {r = r} l e = subst (λ (o : Outcome). Gives o l l (Refused r)) e (record { answer = refl; written = refl })
+pub stays : {o : Outcome} {r : Refusal} (l : List ℕ) → refused r ≡ o → Gives o l l (Err r)
+stays {r = r} l e = subst (λ (o : Outcome). Gives o l l (Err r)) e (record { answer = refl; written = refl })
 
-pub same_outcome : {o p : Outcome} {l m : List ℕ} {r : Answer} → o ≡ p → Gives o l m r → Gives p l m r
+pub same_outcome : {o p : Outcome} {l m : List ℕ} {r : Answered} → o ≡ p → Gives o l m r → Gives p l m r
 same_outcome {l = l} {m = m} {r = r} e g = subst (λ (o : Outcome). Gives o l m r) e g
 
-pub same_answer : {o : Outcome} {l m : List ℕ} {r q : Answer} → r ≡ q → Gives o l m q → Gives o l m r
-same_answer {o = o} {l = l} {m = m} e g = subst (λ (a : Answer). Gives o l m a) (sym e) g
+pub same_answer : {o : Outcome} {l m : List ℕ} {r q : Answered} → r ≡ q → Gives o l m q → Gives o l m r
+same_answer {o = o} {l = l} {m = m} e g = subst (λ (a : Answered). Gives o l m a) (sym e) g
 
 -- ---- a verdict, as a call gave it
 
 module _ (v : Verdict) (a : Answer) (words : List ℕ) where
-  pub not-shown : (w : Verdict) (r : Refusal) → w ≡ v → w ≡ verdict.Refused r → refused r ≡ shown v a words
+  pub not-shown : (w : Verdict) (r : Refusal) → w ≡ v → w ≡ Err r → refused r ≡ shown v a words
   not-shown w r e f = ap (λ (x : Verdict). shown x a words) (sym f ∙ e)
 
-  pub is-shown : (w : Verdict) (l m : List ℕ) → w ≡ v → w ≡ verdict.Good → m ≡ words ++ drop (length words) l → Gives (shown v a words) l m a
+  pub is-shown : (w : Verdict) (l m : List ℕ) → w ≡ v → w ≡ good → m ≡ words ++ drop (length words) l → Gives (shown v a words) l m (Ok a)
   is-shown w l m e f p = same_outcome (ap (λ (x : Verdict). shown x a words) (sym f ∙ e)) (record { answer = refl; written = p })
 
 -- the numbers stand at the front of the work slice, and their words went into the result
@@ -57,15 +56,6 @@ module _ (r : List ℕ) (w : List Float) where
   room_for e =
       let b = and_both (leb 4096 (length r)) (leb 8192 (length w)) e in
       (leb-true 4096 (length r) b.0, leb-true 8192 (length w) b.1)
-
-  pub no_result : length r < 4096 → roomy r w ≡ false
-  unfolding roomy
-  no_result h = ap (λ (b : Bool). b && leb 8192 (length w)) (lt-leb 4096 (length r) h)
-
-  -- the second test decides where the first holds
-  pub room-left : 4096 ≤ length r → leb 8192 (length w) ≡ roomy r w
-  unfolding roomy
-  room-left h = ap (λ (b : Bool). b && leb 8192 (length w)) (sym (le-leb 4096 (length r) h))
 
   -- too little room, and enough
   pub crowded : (o : Outcome) → roomy r w ≡ false → refused ShortBuffer ≡ in_room r w o

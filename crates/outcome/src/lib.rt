@@ -2,11 +2,11 @@
 #![tactic(auto)]
 
 ghost use Rattle.std.specs.Prelude.{◌≡◌};
-ghost use Rattle.outcome.specs.Outcome.{roomy, bit_of};
+ghost use Rattle.outcome.specs.Outcome.{Outcome, roomy, Call, MayRun, Runs};
 
 use refusal::Refusal;
 
-// The header of a sheet, what an entry of the library tells, or a refusal. There is a case for each that is built.
+// The header of a sheet, or what an entry of the library tells. There is a case for each that is built. A call answers `Result<Answer, Refusal>`.
 #[derive(Clone, Copy)]
 pub enum Answer {
     Density {
@@ -50,25 +50,30 @@ pub enum Answer {
     Probabilities {
         count: u64,
     },
-    Refused(Refusal),
 }
 
-// Whether the lent slices are long enough; refusal 16 if not.
-pub fn has_room(res: &[u64], work: &[f64]) -> bool
+// Whether the lent slices are long enough.
+#[tactic(auto, unfolding(crate::specs::Outcome::roomy))]
+fn has_room(res: &[u64], work: &[f64]) -> bool
     ensures { result ≡ roomy res.now work.now }
 {
-    if res.len() < 4096 {
-        return false;
-    }
-    8192 <= work.len()
+    4096 <= res.len() && 8192 <= work.len()
 }
 
-// What is said to hold or not, as a sheet shows it: 1 or 0.
-pub fn bit_of(b: bool) -> u64
-    ensures { result ≡ bit_of b }
+// Runs an entry point where the lent slices are long enough, and clears the work slice at every exit.
+pub fn in_room<F: FnOnce(&mut [u64], &mut [f64]) -> Result<Answer, Refusal>>(
+    res: &mut [u64],
+    work: &mut [f64],
+    run: F,
+) -> Result<Answer, Refusal>
+    requires { MayRun F.FnOnce run }
+    ensures { (o : Outcome) → Runs F.FnOnce run o → Call o res.old res.new work.old work.new result }
 {
-    if b {
-        return 1;
-    }
-    0
+    let answer = if has_room(res, work) {
+        run(res, work)
+    } else {
+        Err(Refusal::ShortBuffer)
+    };
+    numbers::clear(work);
+    answer
 }

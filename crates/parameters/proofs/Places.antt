@@ -1,5 +1,6 @@
 -- What a good verdict says of a request: its controls, that it has records and coordinates, and that the place of each coordinate is one of the
 -- model's numbers. Assumes nothing.
+use Rattle.refusal.specs.Verdicts.{good}
 use Prim.Native.Nat.{ℕ, ◌+◌, ◌*◌, ◌<◌}
 use mathlib.Core.Path.{◌≡◌, sym}
 use mathlib.Core.Bool.{Bool, true, false, cond, not, ◌&&◌}
@@ -11,7 +12,6 @@ use lib.ListN.{length, get_or}
 use Rattle.lists.proofs.Filling.{length-build, get_or-build}
 use Rattle.lists.proofs.Parts.{entry-fits}
 use Rattle.booleans.proofs.Joined.{and_both}
-use Rattle.refusal.specs.declared.Verdict.TheVariants.{Good}
 use Rattle.refusal.proofs.Verdicts.{passed, held, each-good}
 use Rattle.card_layout.specs.declared.Header.{Header}
 use Rattle.card_layout.specs.declared.Coordinate.{Coordinate}
@@ -41,7 +41,7 @@ place_inside h c =
     (λ e. omega (arith, within c.which (c.row * h.dimension + c.column) h.gates (h.dimension * h.dimension) e))
 
 module _ (s : List ℕ) (h : Header) where
-  entry-there : (i : ℕ) → parameter_verdict s h i ≡ Good → has_entry h (coordinate_in s h i) ≡ true
+  entry-there : (i : ℕ) → parameter_verdict s h i ≡ good → has_entry h (coordinate_in s h i) ≡ true
   unfolding parameter_verdict
   entry-there i e = held (has_entry h (coordinate_in s h i)) _ (passed (repeated s h i) _ _ (sym e)).1
 
@@ -53,14 +53,14 @@ module _ (s : List ℕ) (h : Header) where
   unfolding places_of
   place_at i l = get_or-build 0 h.coordinates i (λ i. place_of h (coordinate_in s h i)) l
 
-  pub entries-there : parameters_verdict s h ≡ Good → (i : ℕ) → i < h.coordinates → has_entry h (coordinate_in s h i) ≡ true
+  pub entries-there : parameters_verdict s h ≡ good → (i : ℕ) → i < h.coordinates → has_entry h (coordinate_in s h i) ≡ true
   unfolding parameters_verdict
   entries-there e i l = entry-there i (each-good h.coordinates (parameter_verdict s h) e i l)
 
-  pub places-inside : parameters_verdict s h ≡ Good → (i : ℕ) → i < h.coordinates → get_or (places_of s h) i 0 < model_numbers h
+  pub places-inside : parameters_verdict s h ≡ good → (i : ℕ) → i < h.coordinates → get_or (places_of s h) i 0 < model_numbers h
   places-inside e i l = rw (place_at i l) (place_inside h (coordinate_in s h i) (entries-there e i l))
 
-  pub request-good : request_verdict s h ≡ Good → (good_config (config_of s) ≡ true) × (parameters_verdict s h ≡ Good) × (0 < h.records) × (0 < h.coordinates)
+  pub request-good : request_verdict s h ≡ good → (good_config (config_of s) ≡ true) × (parameters_verdict s h ≡ good) × (0 < h.records) × (0 < h.coordinates)
   unfolding request_verdict
   request-good e =
       let a = passed (not (good_config (config_of s))) _ _ (sym e) in

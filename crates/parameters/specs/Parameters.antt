@@ -1,15 +1,14 @@
 -- The controls and the coordinates of a fit card, as the Rust's `validate_optimizer_config` and `parameter_value` test them, in its order.
-use Rattle.std.specs.Prelude.{ℕ, ◌+◌, ◌*◌, Bool, false, cond, not, ◌&&◌, List, eqb, ltb}
+use Rattle.refusal.specs.Verdicts.{good, Verdict, first_of}
+use Rattle.std.specs.Prelude.{Err, ℕ, ◌+◌, ◌*◌, Bool, false, cond, not, ◌&&◌, List, eqb, ltb}
 use Rattle.std.specs.Float.Ieee.{lt}
 use Rattle.lists.specs.Build.{build}
 use Rattle.lists.specs.Fold.{fold}
 use Rattle.numbers.specs.Number.{zero_f, finite, positive}
 use Rattle.numbers.specs.Word.{word_at}
 use Rattle.numbers.specs.Slice.{number_at}
+use Rattle.refusal.specs.declared.Reason.TheVariants.{Controls, NoCoordinates, NoRecords, RepeatedCoordinate}
 use Rattle.refusal.specs.declared.Refusal.TheVariants.{InvalidGstOptimization, InvalidGstParameter}
-use Rattle.refusal.specs.declared.Verdict.{Verdict}
-use Rattle.refusal.specs.declared.Verdict.TheVariants.{Good, Refused}
-use Rattle.refusal.specs.Verdicts.{first_of}
 use Rattle.card_layout.specs.declared.Header.{Header}
 use Rattle.card_layout.specs.declared.Coordinate.{Coordinate}
 use Rattle.card_places.specs.Places.{coordinate_at}
@@ -67,17 +66,17 @@ repeated s h i = any_of false i (λ j. eqb (word_at s (coordinate_at h j)) (word
 -- coordinate i: repeated, then without an entry
 unfoldable pub parameter_verdict : List ℕ → Header → ℕ → Verdict
 parameter_verdict s h i =
-    cond (repeated s h i) (Refused (InvalidGstOptimization 4))
-    (cond (has_entry h (coordinate_in s h i)) Good
-    (Refused (InvalidGstParameter i)))
+    cond (repeated s h i) (Err (InvalidGstOptimization RepeatedCoordinate))
+    (cond (has_entry h (coordinate_in s h i)) good
+    (Err (InvalidGstParameter i)))
 
 unfoldable pub parameters_verdict : List ℕ → Header → Verdict
-parameters_verdict s h = fold h.coordinates (λ i v. first_of v (parameter_verdict s h i)) Good
+parameters_verdict s h = fold h.coordinates (λ i v. first_of v (parameter_verdict s h i)) good
 
 -- the controls, no records, no coordinates, then coordinate by coordinate
 unfoldable pub request_verdict : List ℕ → Header → Verdict
 request_verdict s h =
-    cond (not (good_config (config_of s))) (Refused (InvalidGstOptimization 1))
-    (cond (eqb h.records 0) (Refused (InvalidGstOptimization 2))
-    (cond (eqb h.coordinates 0) (Refused (InvalidGstOptimization 3))
+    cond (not (good_config (config_of s))) (Err (InvalidGstOptimization Controls))
+    (cond (eqb h.records 0) (Err (InvalidGstOptimization NoRecords))
+    (cond (eqb h.coordinates 0) (Err (InvalidGstOptimization NoCoordinates))
     (parameters_verdict s h)))

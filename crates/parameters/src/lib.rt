@@ -9,14 +9,13 @@ ghost use Rattle.card_places.specs.Shape.{Shaped};
 ghost use Rattle.card_places.specs.Places.{coordinate_at};
 ghost use Rattle.parameters.specs.Parameters.{config_of, good_config, has_entry, place_of, places_of, repeated, parameter_verdict, parameters_verdict, request_verdict};
 
-use booleans::{both, either, pick};
 use card_layout::{Coordinate, Header};
 use card_parts::coordinate_in;
 use card_places::coordinate_at;
 use descent::GstOptimizerConfig;
 use model_words::vector_numbers;
 use numbers::{is_finite, is_positive, number_of, word_at};
-use refusal::{Refusal, Verdict};
+use refusal::{Reason, Refusal};
 use sizes::square;
 
 // Words 1 to 8 of the card.
@@ -40,13 +39,13 @@ pub fn config_of(card: &[u8]) -> GstOptimizerConfig
 fn is_good(c: GstOptimizerConfig) -> bool
     ensures { result ≡ good_config c }
 {
-    let anchor = both(is_finite(c.anchor_strength), !(c.anchor_strength < 0.0));
-    let probability = both(is_positive(c.probability_tolerance), anchor);
-    let objective = both(is_positive(c.objective_tolerance), probability);
-    let gradient = both(is_positive(c.gradient_tolerance), objective);
-    let difference = both(is_positive(c.finite_difference_step), gradient);
-    let step = both(is_positive(c.initial_step), difference);
-    both(0 < c.max_iterations, both(0 < c.max_backtracks, step))
+    let anchor = is_finite(c.anchor_strength) & !(c.anchor_strength < 0.0);
+    let probability = is_positive(c.probability_tolerance) & anchor;
+    let objective = is_positive(c.objective_tolerance) & probability;
+    let gradient = is_positive(c.gradient_tolerance) & objective;
+    let difference = is_positive(c.finite_difference_step) & gradient;
+    let step = is_positive(c.initial_step) & difference;
+    (0 < c.max_iterations) & ((0 < c.max_backtracks) & step)
 }
 
 // The number of a gate's entry, by rows.
@@ -64,10 +63,13 @@ fn has_entry(h: Header, c: Coordinate) -> bool
     ensures { result ≡ has_entry h c }
 {
     let d = h.dimension;
-    let in_state = c.column < d;
-    let in_effect = both(c.which < h.effects, in_state);
-    let in_gate = both(c.which < h.gates, entry_number(h, c) < square(d));
-    pick(c.kind == 1, in_state, pick(c.kind == 2, in_effect, in_gate))
+    if c.kind == 1 {
+        return c.column < d;
+    }
+    if c.kind == 2 {
+        return (c.which < h.effects) & (c.column < d);
+    }
+    (c.which < h.gates) & (entry_number(h, c) < square(d))
 }
 
 // The place of that entry among the model's numbers.
@@ -101,51 +103,47 @@ fn is_repeated(card: &[u8], h: Header, i: usize) -> bool
     let word = coordinate_word(card, h, i);
     let mut seen = false;
     for j in 0..i {
-        seen = either(seen, coordinate_word(card, h, j) == word);
+        seen = seen | (coordinate_word(card, h, j) == word);
     }
     seen
 }
 
-fn check_parameter(card: &[u8], h: Header, i: usize) -> Verdict
+fn check_parameter(card: &[u8], h: Header, i: usize) -> Result<(), Refusal>
     requires { Shaped card.now h × (i < h.coordinates) }
     ensures { result ≡ parameter_verdict card.now h i }
 {
     if is_repeated(card, h, i) {
-        return Verdict::Refused(Refusal::InvalidGstOptimization(4));
+        return Err(Refusal::InvalidGstOptimization(Reason::RepeatedCoordinate));
     }
     if has_entry(h, coordinate_in(card, h, i)) {
-        return Verdict::Good;
+        return Ok(());
     }
-    Verdict::Refused(Refusal::InvalidGstParameter(i as u64))
+    Err(Refusal::InvalidGstParameter(i as u64))
 }
 
-fn check_parameters(card: &[u8], h: Header) -> Verdict
+fn check_parameters(card: &[u8], h: Header) -> Result<(), Refusal>
     requires { Shaped card.now h }
     ensures { result ≡ parameters_verdict card.now h }
 {
-    let count = h.coordinates;
-    let mut found = Verdict::Good;
-    for i in 0..count {
-        found = refusal::first_of(found, check_parameter(card, h, i));
+    for i in 0..h.coordinates {
+        check_parameter(card, h, i)?;
     }
-    found
+    Ok(())
 }
 
 // What the Rust tests of a fit before its first evaluation.
-pub fn check_request(card: &[u8], h: Header) -> Verdict
+pub fn check_request(card: &[u8], h: Header) -> Result<(), Refusal>
     requires { Shaped card.now h × (72 ≤ length card.now) }
     ensures { result ≡ request_verdict card.now h }
 {
-    let records = h.records;
-    let coordinates = h.coordinates;
     if !is_good(config_of(card)) {
-        return Verdict::Refused(Refusal::InvalidGstOptimization(1));
+        return Err(Refusal::InvalidGstOptimization(Reason::Controls));
     }
-    if records == 0 {
-        return Verdict::Refused(Refusal::InvalidGstOptimization(2));
+    if h.records == 0 {
+        return Err(Refusal::InvalidGstOptimization(Reason::NoRecords));
     }
-    if coordinates == 0 {
-        return Verdict::Refused(Refusal::InvalidGstOptimization(3));
+    if h.coordinates == 0 {
+        return Err(Refusal::InvalidGstOptimization(Reason::NoCoordinates));
     }
     check_parameters(card, h)
 }
@@ -155,8 +153,7 @@ pub fn load_places(card: &[u8], h: Header, out: &mut [usize])
     requires { Shaped card.now h × (h.coordinates ≤ length out.old) }
     ensures { out.new ≡ over (places_of card.now h) out.old }
 {
-    let count = h.coordinates;
-    for i in 0..count {
-        out[i] = place_of(h, coordinate_in(card, h, i));
+    for (i, place) in out[..h.coordinates].iter_mut().enumerate() {
+        *place = place_of(h, coordinate_in(card, h, i));
     }
 }

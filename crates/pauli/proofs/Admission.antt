@@ -1,4 +1,6 @@
 -- The tests before the sum, taken apart in their order. Assumes nothing.
+use Rattle.std.proofs.Common.{Err, Ok}
+use Rattle.refusal.specs.Verdicts.{good, Verdict, after}
 use mathlib.Core.Path.{◌≡◌, refl, ap}
 use mathlib.Core.Bool.{Bool, true, false, cond, not}
 use mathlib.Core.List.{List, []}
@@ -11,37 +13,34 @@ use Rattle.numbers.specs.Number.{one_f, ◌-ᶠ◌, abs, positive}
 use Rattle.numbers.specs.Slice.{at, all_finite}
 use Rattle.refusal.specs.declared.Refusal.{Refusal}
 use Rattle.refusal.specs.declared.Refusal.TheVariants.{NonFinite, InvalidNormalization, InvalidTolerance}
-use Rattle.refusal.specs.declared.Verdict.{Verdict}
-use Rattle.refusal.specs.declared.Verdict.TheVariants.{Good, Refused}
-use Rattle.refusal.specs.Verdicts.{after}
 use Rattle.pauli.specs.Density.{density_of, vet_of, admitted, tested_of, inverted_of, computed_of}
 use Rattle.pauli.proofs.Entries.{below-four}
 
 -- ---- a vector
 
 module _ (t : Float) (es : List Float) where
-  pub not_finite : all_finite es ≡ false → Refused NonFinite ≡ vet_of t es
+  pub not_finite : all_finite es ≡ false → Err NonFinite ≡ vet_of t es
   unfolding vet_of
   not_finite h = yes _ (ap not h)
 
   module _ (f : all_finite es ≡ true) where
-    pub not-normalized : lt t (abs (at es 0 -ᶠ one_f)) ≡ true → Refused (InvalidNormalization (at es 0)) ≡ vet_of t es
+    pub not-normalized : lt t (abs (at es 0 -ᶠ one_f)) ≡ true → Err (InvalidNormalization (at es 0)) ≡ vet_of t es
     unfolding vet_of
     not-normalized h = no _ (ap not f) (yes _ h)
 
-    pub normalized : lt t (abs (at es 0 -ᶠ one_f)) ≡ false → Good ≡ vet_of t es
+    pub normalized : lt t (abs (at es 0 -ᶠ one_f)) ≡ false → good ≡ vet_of t es
     unfolding vet_of
     normalized h = no _ (ap not f) (no _ h refl)
 
   -- a good vector is finite
-  pub good-finite : Good ≡ vet_of t es → all_finite es ≡ true
+  pub good-finite : good ≡ vet_of t es → all_finite es ≡ true
   unfolding vet_of
   good-finite = go (all_finite es) (lt t (abs (at es 0 -ᶠ one_f)))
     where
-      never : {r : Refusal} → Good ≡ Refused r → ⊥
+      never : {r : Refusal} → good ≡ Err r → ⊥
       never e = let z : ◌≡◌ {A = ℕ} 0 1 = cc in omega arith
 
-      go : (a b : Bool) → Good ≡ cond (not a) (Refused NonFinite) (cond b (Refused (InvalidNormalization (at es 0))) Good) → a ≡ true
+      go : (a b : Bool) → good ≡ cond (not a) (Err NonFinite) (cond b (Err (InvalidNormalization (at es 0))) good) → a ≡ true
       go true b e = refl
       go false b e = absurd (never e)
 
@@ -61,14 +60,14 @@ pub some : (n : ℕ) → n ≤ 3 → 0 < 4 ^ n
 some n h = below-four (λ n. 0 < 4 ^ n) (lit< tt) (lit< tt) (lit< tt) (lit< tt) n (omega arith)
 
 -- what a call computes where it answers a density
-pub computed-density : (n : ℕ) (t : Float) (es : List Float) → inverted_of n t es ≡ Good → computed_of n t es ≡ density_of n es
+pub computed-density : (n : ℕ) (t : Float) (es : List Float) → inverted_of n t es ≡ good → computed_of n t es ≡ density_of n es
 unfolding admitted
 computed-density n t es = go (not (positive t)) (vet_of t es)
   where
-    never : {r : Refusal} → Refused r ≡ Good → ⊥
+    never : {r : Refusal} → Err r ≡ good → ⊥
     never e = let z : ◌≡◌ {A = ℕ} 0 1 = cc in omega arith
 
-    go : (a : Bool) (v : Verdict) → cond a (Refused InvalidTolerance) (after v Refused (tested_of n es)) ≡ Good → cond a [] (after v (λ _. []) (density_of n es)) ≡ density_of n es
+    go : (a : Bool) (v : Verdict) → cond a (Err InvalidTolerance) (after v Err (tested_of n es)) ≡ good → cond a [] (after v (λ _. []) (density_of n es)) ≡ density_of n es
     go true v e = absurd (never e)
-    go false (Refused r) e = absurd (never e)
-    go false Good e = refl
+    go false (Err r) e = absurd (never e)
+    go false (Ok _) e = refl

@@ -60,12 +60,11 @@ going-suc n code row column power place c x left f t p q r g =
     moved : (p k y t : ℕ) → t ≡ y → (p + (k + y) % 4) % 4 ≡ ((p + t) % 4 + k) % 4
     moved p k y t e = omega arith
 
-pub going_more : (n code row column power place c x left f t : ℕ) → 0 < left → f ≡ flipped (c % 4) (x % 2) → f < 2 → t ≡ turned (c % 4) (x % 2)
-    → Going n code row column power place c x left → Going n code row (column + place * f) ((power + t) % 4) (place * 2) (c / 4) (x / 2) (left - 1)
-going_more n code row column power place c x zero f t h p q r g = absurd (omega arith)
-going_more n code row column power place c x (suc left) f t h p q r g =
-    let e : left ≡ suc left - 1 = omega arith in
-    subst (λ (k : ℕ). Going n code row (column + place * f) ((power + t) % 4) (place * 2) (c / 4) (x / 2) k) e (going-suc n code row column power place c x left f t p q r g)
+pub going_more : (n code row column power place c x k a f t : ℕ) → k < n → a ≡ c % 4 → f ≡ flipped a (x % 2) → f < 2 → t ≡ turned a (x % 2)
+    → Going n code row column power place c x (n - k) → Going n code row (column + place * f) ((power + t) % 4) (place * 2) (c / 4) (x / 2) (n - (k + 1))
+going_more n code row column power place c x k a f t h z p q r g =
+    let e : n - k ≡ suc (n - (k + 1)) = omega arith in
+    going-suc n code row column power place c x (n - (k + 1)) f t (rw z at p) q (rw z at r) (rw e at g)
 
 -- no digit is left
 module _ (n code row column power place c x left : ℕ) (z : left ≡ 0) (going : Going n code row column power place c x left) where

@@ -24,8 +24,7 @@ use Rattle.rounding.proofs.Zeros.{zero-times, add_nothing, add-plain, finite-ove
 use Rattle.pauli.specs.Exact.{Gaussian, none}
 use Rattle.pauli.specs.Entry.{filled_column, filled_power, power_of_i, filled_place, unit_of, with_entry, AllPlain}
 use Rattle.pauli.specs.Density.{part_of, string_part, pinned, weight, density_part, with_string, density_of, tested_of}
-use Rattle.refusal.specs.declared.Verdict.{Verdict}
-use Rattle.refusal.specs.Verdicts.{finite_or}
+use Rattle.refusal.specs.Verdicts.{Verdict, finite_or}
 use Rattle.refusal.specs.declared.Refusal.TheVariants.{Operator}
 use Rattle.pauli.proofs.Digits.{power_small}
 use Rattle.pauli.proofs.Entries.{below_two, below-four, row_of, entry-is, column-small}

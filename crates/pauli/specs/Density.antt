@@ -1,6 +1,7 @@
 -- Linear inversion (Nielsen and Chuang, section 8.4.2): the density matrix from the expectations of all Pauli strings of n qubits,
 -- in float operations as the Rust's `linear_inversion` has them.
-use Rattle.std.specs.Prelude.{ℕ, zero, suc, ◌*◌, ◌/◌, ◌%◌, ◌^◌, cond, not, List, [], eqb, ℤ, pos, Float}
+use Rattle.refusal.specs.Verdicts.{good, Verdict, after, finite_or}
+use Rattle.std.specs.Prelude.{Err, ℕ, zero, suc, ◌*◌, ◌/◌, ◌%◌, ◌^◌, cond, not, List, [], eqb, ℤ, pos, Float}
 use Rattle.std.specs.Float.Ieee.{lt, of_int}
 use Rattle.std.specs.Float.{binary64}
 use Rattle.lists.specs.Build.{build}
@@ -10,9 +11,6 @@ use Rattle.numbers.specs.Slice.{at, all_finite}
 use Rattle.refusal.specs.declared.Refusal.{Refusal}
 use Rattle.refusal.specs.declared.Refusal.TheVariants.{NonFinite, InvalidNormalization, InvalidTolerance, Operator}
 use Rattle.pauli.specs.Exact.{Gaussian, string_entry}
-use Rattle.refusal.specs.declared.Verdict.{Verdict}
-use Rattle.refusal.specs.declared.Verdict.TheVariants.{Good, Refused}
-use Rattle.refusal.specs.Verdicts.{after, finite_or}
 
 -- the real part (0) or the imaginary part (1) of an exact entry
 abbrev pub part_of : ℕ → Gaussian → ℤ
@@ -46,9 +44,9 @@ density_of n es = build (2 * (2 ^ n * 2 ^ n)) (λ k. density_part n es (k % 2) (
 -- what the Rust tests of a vector of expectations, in its order: that all are finite, and that the identity's is near 1
 unfoldable pub vet_of : Float → List Float → Verdict
 vet_of tolerance es =
-    cond (not (all_finite es)) (Refused NonFinite)
-    (cond (lt tolerance (abs (at es 0 -ᶠ one_f))) (Refused (InvalidNormalization (at es 0)))
-    Good)
+    cond (not (all_finite es)) (Err NonFinite)
+    (cond (lt tolerance (abs (at es 0 -ᶠ one_f))) (Err (InvalidNormalization (at es 0)))
+    good)
 
 -- what the Rust tests before it computes: the tolerance, then the expectations
 unfoldable pub admitted : {A : Type 0} → Float → List Float → (Refusal → A) → A → A
@@ -60,7 +58,7 @@ tested_of n es = finite_or Operator (density_of n es)
 
 -- the outcome
 abbrev pub inverted_of : ℕ → Float → List Float → Verdict
-inverted_of n tolerance es = admitted tolerance es Refused (tested_of n es)
+inverted_of n tolerance es = admitted tolerance es Err (tested_of n es)
 
 -- the numbers that a call computes: none where the expectations are not admitted
 abbrev pub computed_of : ℕ → Float → List Float → List Float

@@ -4,7 +4,16 @@ use Rattle.std.specs.Float.Ieee.{neg, fits}
 use Rattle.std.specs.Float.{binary64}
 use Rattle.numbers.specs.Number.{one_f, ◌+ᶠ◌, ◌*ᶠ◌, Plain}
 use Rattle.numbers.specs.Slice.{at}
+use Rattle.pauli.specs.declared.Axis.{Axis}
+use Rattle.pauli.specs.declared.Axis.TheVariants.{I, X, Y, Z}
 use Rattle.pauli.specs.Exact.{Gaussian, none, one, i, minus_one, minus_i}
+
+-- the axes' numbers
+abbrev pub digit : Axis → ℕ
+digit I = 0
+digit X = 1
+digit Y = 2
+digit Z = 3
 
 -- X and Y fill the other column
 unfoldable pub flipped : ℕ → ℕ → ℕ

@@ -1,47 +1,69 @@
 // Pauli strings, and the linear inversion of their expectations (kind 1).
-#![tactic(auto)]
+#![tactic(auto, unfolding(crate::specs::Entry::flipped, crate::specs::Entry::turned, crate::specs::Entry::unit_of))]
 
-ghost use Rattle.std.specs.Prelude.{◌≡◌, true, ◌+◌, ◌*◌, ◌^◌, ◌≤◌, ◌<◌, length};
+ghost use Rattle.std.specs.Prelude.{◌≡◌, true, cond, eqb, pos, ◌%◌, ◌+◌, ◌*◌, ◌^◌, ◌≤◌, ◌<◌, length};
+ghost use Rattle.std.specs.Float.{binary64};
+ghost use Rattle.std.specs.Float.Ieee.{of_int};
 ghost use Rattle.lists.specs.Build.{over};
-ghost use Rattle.numbers.specs.Number.{finite};
+ghost use Rattle.numbers.specs.Number.{one_f, ◌/ᶠ◌, finite};
 ghost use Rattle.numbers.specs.Slice.{all_finite};
-ghost use Rattle.pauli.specs.Entry.{flipped, turned, filled_column, filled_power, unit_of, with_entry, AllPlain};
-ghost use Rattle.pauli.specs.Density.{weight, with_string, density_of, tested_of, vet_of, inverted_of, computed_of};
+ghost use Rattle.pauli.specs.Entry.{digit, flipped, turned, filled_column, filled_power, unit_of, with_entry, AllPlain};
+ghost use Rattle.pauli.specs.Density.{with_string, density_of, tested_of, vet_of, inverted_of, computed_of};
 
-use refusal::{Refusal, Verdict};
+use refusal::Refusal;
 use sizes::two_to;
+
+// The matrices that a string is made of. The digits of its code number them, 0 to 3.
+#[derive(Clone, Copy, Debug, PartialEq, Eq)]
+enum Axis {
+    I,
+    X,
+    Y,
+    Z,
+}
+
+impl Axis {
+    // That of a code's last digit.
+    fn last(code: usize) -> Axis
+        ensures { digit result ≡ code % 4 }
+    {
+        match code % 4 {
+            0 => Axis::I,
+            1 => Axis::X,
+            2 => Axis::Y,
+            _ => Axis::Z,
+        }
+    }
+
+    // The column that is filled in row x: X and Y fill the other one.
+    fn flipped(self, x: usize) -> usize
+        requires { x < 2 }
+        ensures { (result ≡ flipped (digit self) x) × (result < 2) }
+    {
+        match self {
+            Axis::X | Axis::Y => 1 - x,
+            Axis::I | Axis::Z => x,
+        }
+    }
+
+    // The power of i in row x: Y has -i and i, Z has 1 and -1.
+    fn turned(self, x: usize) -> usize
+        requires { x < 2 }
+        ensures { (result ≡ turned (digit self) x) × (result < 4) }
+    {
+        match self {
+            Axis::Y => 3 - 2 * x,
+            Axis::Z => 2 * x,
+            Axis::I | Axis::X => 0,
+        }
+    }
+}
 
 // The one entry of a string's row that is not zero: its column, and the power of i, 0 to 3, that it is.
 #[derive(Clone, Copy)]
 pub struct Filled {
     pub column: usize,
     pub power: usize,
-}
-
-fn flipped(axis: usize, x: usize) -> usize
-    requires { (axis < 4) × (x < 2) }
-    ensures { (result ≡ flipped axis x) × (result < 2) }
-{
-    if axis == 1 {
-        return 1 - x;
-    }
-    if axis == 2 {
-        return 1 - x;
-    }
-    x
-}
-
-fn turned(axis: usize, x: usize) -> usize
-    requires { (axis < 4) × (x < 2) }
-    ensures { (result ≡ turned axis x) × (result < 4) }
-{
-    if axis == 2 {
-        return 3 - 2 * x;
-    }
-    if axis == 3 {
-        return 2 * x;
-    }
-    0
 }
 
 // Digit by digit from the lowest, which is the last axis.
@@ -54,16 +76,13 @@ pub fn filled_of(n: usize, code: usize, row: usize) -> Filled
     let mut place: usize = 1;
     let mut c = code;
     let mut x = row;
-    let mut left = n;
-    while 0 < left {
-        let axis = c % 4;
-        let bit = x % 2;
-        column = column + place * flipped(axis, bit);
-        power = (power + turned(axis, bit)) % 4;
-        place = place * 2;
-        c = c / 4;
-        x = x / 2;
-        left = left - 1;
+    for _ in 0..n {
+        let axis = Axis::last(c);
+        column += place * axis.flipped(x % 2);
+        power = (power + axis.turned(x % 2)) % 4;
+        place *= 2;
+        c /= 4;
+        x /= 2;
     }
     Filled { column, power }
 }
@@ -71,10 +90,7 @@ pub fn filled_of(n: usize, code: usize, row: usize) -> Filled
 pub fn unit_of(power: usize) -> f64
     ensures { result ≡ unit_of power }
 {
-    if power < 2 {
-        return 1.0;
-    }
-    -1.0
+    if power < 2 { 1.0 } else { -1.0 }
 }
 
 fn add_entry(n: usize, d: usize, code: usize, row: usize, w: f64, out: &mut [f64])
@@ -83,7 +99,7 @@ fn add_entry(n: usize, d: usize, code: usize, row: usize, w: f64, out: &mut [f64
 {
     let f = filled_of(n, code, row);
     let k = 2 * (row * d + f.column) + f.power % 2;
-    out[k] = out[k] + unit_of(f.power) * w;
+    out[k] += unit_of(f.power) * w;
 }
 
 // The string's zeros are passed over: added to a sum that is not -0 they change nothing.
@@ -96,65 +112,62 @@ fn add_string(n: usize, d: usize, code: usize, w: f64, out: &mut [f64])
     }
 }
 
-fn weight_of(es: &[f64], code: usize, d: usize) -> f64
-    requires { (d ≤ 8) × (code < length es.now) }
-    ensures { result ≡ weight d es.now code }
+// What a string of this code and expectation is multiplied by. The identity's expectation is pinned to 1.
+fn weight_of(e: f64, code: usize, d: usize) -> f64
+    requires { d ≤ 8 }
+    ensures { result ≡ cond (eqb code 0) one_f e /ᶠ of_int binary64 (pos d) }
 {
-    let scale = d as f64;
-    if code == 0 {
-        return 1.0 / scale;
-    }
-    es[code] / scale
+    let pinned = if code == 0 { 1.0 } else { e };
+    pinned / d as f64
 }
 
 fn density(n: usize, d: usize, es: &[f64], out: &mut [f64])
     requires { (n ≤ 3) × (d ≡ 2 ^ n) × (length es.now ≡ 4 ^ n) × (length out.old ≡ 2 * (d * d)) × (all_finite es.now ≡ true) }
     ensures { out.new ≡ density_of n es.now }
 {
-    numbers::clear(out);
-    let count = es.len();
-    for code in 0..count {
-        add_string(n, d, code, weight_of(es, code, d), out);
+    out.fill(0.0);
+    for (code, e) in es.iter().enumerate() {
+        add_string(n, d, code, weight_of(*e, code, d), out);
     }
 }
 
 // The density matrix at the front of `out`, once the expectations are admitted.
-fn density_tested(n: usize, es: &[f64], out: &mut [f64]) -> Verdict
+fn density_tested(n: usize, es: &[f64], out: &mut [f64]) -> Result<(), Refusal>
     requires { (n ≤ 3) × (length es.now ≡ 4 ^ n) × (2 * (2 ^ n * 2 ^ n) ≤ length out.old) × (all_finite es.now ≡ true) }
     ensures { (result ≡ tested_of n es.now) × (out.new ≡ over (density_of n es.now) out.old) }
 {
     let d = two_to(n);
-    let m = 2 * (d * d);
-    density(n, d, es, &mut out[..m]);
-    refusal::finite_or(Refusal::Operator, &out[..m])
+    let front = &mut out[..2 * (d * d)];
+    density(n, d, es, front);
+    refusal::finite_or(Refusal::Operator, front)
 }
 
 // Tests a vector of expectations.
-pub fn vet(tolerance: f64, es: &[f64]) -> Verdict
+pub fn vet(tolerance: f64, es: &[f64]) -> Result<(), Refusal>
     requires { 0 < length es.now }
     ensures { result ≡ vet_of tolerance es.now }
 {
-    if !numbers::all_finite(es) {
-        return Verdict::Refused(Refusal::NonFinite);
-    }
+    refusal::finite_or(Refusal::NonFinite, es)?;
     let e = es[0];
     if numbers::abs_of(e - 1.0) > tolerance {
-        return Verdict::Refused(Refusal::InvalidNormalization(e));
+        return Err(Refusal::InvalidNormalization(e));
     }
-    Verdict::Good
+    Ok(())
 }
 
 // The Rust's `linear_inversion`. An accepted call leaves the density matrix at the front of `out`, real and imaginary part of each entry by rows.
-pub fn linear_inversion(n: usize, tolerance: f64, es: &[f64], out: &mut [f64]) -> Verdict
+pub fn linear_inversion(
+    n: usize,
+    tolerance: f64,
+    es: &[f64],
+    out: &mut [f64],
+) -> Result<(), Refusal>
     requires { (n ≤ 3) × (length es.now ≡ 4 ^ n) × (2 * (2 ^ n * 2 ^ n) ≤ length out.old) }
     ensures { (result ≡ inverted_of n tolerance es.now) × (out.new ≡ over (computed_of n tolerance es.now) out.old) }
 {
     if !numbers::is_positive(tolerance) {
-        return Verdict::Refused(Refusal::InvalidTolerance);
+        return Err(Refusal::InvalidTolerance);
     }
-    let found = vet(tolerance, es);
-    match found {
-        Verdict::Refused(r) => Verdict::Refused(r),
-        Verdict::Good => density_tested(n, es, out),
-    }
+    vet(tolerance, es)?;
+    density_tested(n, es, out)
 }

@@ -37,9 +37,9 @@ pub near_none : (t : Float) (f : ℕ → Float) → true ≡ near_unit 0 t f
 unfolding near_unit
 near_none t f = fold-none _ true
 
-pub near-more : (k : ℕ) (t : Float) (f : ℕ → Float) (good found next : Bool) (u : Float) → good ≡ near_unit k t f → u ≡ unit_at k → found ≡ near t (f k) u → next ≡ (good && found) → next ≡ near_unit (k + 1) t f
+pub near-more : (k : ℕ) (t : Float) (f : ℕ → Float) (good found : Bool) (u : Float) → good ≡ near_unit k t f → u ≡ unit_at k → found ≡ near t (f k) u → (good && found) ≡ near_unit (k + 1) t f
 unfolding near_unit
-near-more k t f good found next u a b c e = fold_more _ k true good next a (e ∙ ap (λ (x : Bool). good && x) (c ∙ ap (near t (f k)) b))
+near-more k t f good found u a b c = fold_more _ k true good (good && found) a (ap (λ (x : Bool). good && x) (c ∙ ap (near t (f k)) b))
 
 pub near-end : (k p : ℕ) (t : Float) (f : ℕ → Float) (good : Bool) → k ≡ p → good ≡ near_unit k t f → good ≡ near_unit p t f
 unfolding near_unit

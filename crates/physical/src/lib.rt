@@ -8,10 +8,7 @@ ghost use Rattle.physical.specs.Physical.{unit_at, near, near_unit, trace_preser
 fn unit_at(k: usize) -> f64
     ensures { result ≡ unit_at k }
 {
-    if k == 0 {
-        return 1.0;
-    }
-    0.0
+    if k == 0 { 1.0 } else { 0.0 }
 }
 
 fn is_near(tolerance: f64, x: f64, y: f64) -> bool
@@ -20,15 +17,14 @@ fn is_near(tolerance: f64, x: f64, y: f64) -> bool
     numbers::abs_of(x - y) <= tolerance
 }
 
-// Every number that stands `step` after the last, from the first on.
+// Every number that stands `step` after the last, from the first on. By an index: what std ensures of `step_by` does not lead to a list in one step.
 fn is_near_unit(values: &[f64], p: usize, tolerance: f64, step: usize) -> bool
     requires { (p ≤ 16) × (step ≤ p) × (p * p ≤ length values.now) }
     ensures { result ≡ near_unit p tolerance (λ k. at values.now (k * step)) }
 {
     let mut good = true;
     for k in 0..p {
-        let found = is_near(tolerance, values[k * step], unit_at(k));
-        good = booleans::both(good, found);
+        good &= is_near(tolerance, values[k * step], unit_at(k));
     }
     good
 }

@@ -10,30 +10,23 @@ ghost use Rattle.pivots.specs.Pivots.{scale_of, pivot_row, magnitude, stays_larg
 fn size_of(x: f64) -> f64
     ensures { result ≡ magnitude x }
 {
-    if x < 0.0 {
-        return -x;
-    }
-    x
+    if x < 0.0 { -x } else { x }
 }
 
 // The size s, or x where it is above s.
 fn larger(s: f64, x: f64) -> f64
     ensures { result ≡ cond (lt s x) x s }
 {
-    if s < x {
-        return x;
-    }
-    s
+    if s < x { x } else { s }
 }
 
 // The largest size of a row.
 fn row_scale(row: &[f64]) -> f64
     ensures { result ≡ scale_of (length row.now) row.now }
 {
-    let n = row.len();
     let mut s = 0.0;
-    for k in 0..n {
-        s = larger(s, size_of(row[k]));
+    for x in row {
+        s = larger(s, size_of(*x));
     }
     s
 }
@@ -46,8 +39,7 @@ pub fn scale_of(a: &[f64], n: usize) -> f64
     let mut s = 0.0;
     for i in 0..n {
         let start = i * n;
-        let end = start + n;
-        s = larger(s, row_scale(&a[start..end]));
+        s = larger(s, row_scale(&a[start..start + n]));
     }
     s
 }
@@ -73,22 +65,11 @@ fn stays_largest(x: f64, s: f64) -> bool
     s != s
 }
 
-fn picked_row(keep: bool, p: usize, i: usize) -> usize
-    ensures { result ≡ cond keep p i }
+// The one that is kept, or the other.
+fn chosen<T: Copy>(keep: bool, kept: T, other: T) -> T
+    ensures { result ≡ cond keep kept other }
 {
-    if keep {
-        return p;
-    }
-    i
-}
-
-fn picked_size(keep: bool, x: f64, y: f64) -> f64
-    ensures { result ≡ cond keep x y }
-{
-    if keep {
-        return x;
-    }
-    y
+    if keep { kept } else { other }
 }
 
 // The pivot's row in column k. The loop carries the row of the largest entry so far with that entry's size.
@@ -102,8 +83,8 @@ pub fn pivot_row(work: &[f64], n: usize, w: usize, k: usize) -> usize
     for t in 0..m {
         let x = size_at(work, n, w, k, k + t);
         let keep = stays_largest(x, size);
-        p = picked_row(keep, p, k + t);
-        size = picked_size(keep, size, x);
+        p = chosen(keep, p, k + t);
+        size = chosen(keep, size, x);
     }
     p
 }

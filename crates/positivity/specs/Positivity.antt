@@ -1,19 +1,16 @@
 -- Complete positivity (Nielsen and Chuang, section 8.2.4): a process is completely positive where its Choi matrix has no negative eigenvalue. As the Rust's
 -- `is_completely_positive` tests it: no eigenvalue of the normalized Choi matrix is below minus the tolerance.
-use Rattle.std.specs.Prelude.{ℕ, ◌*◌, ◌^◌, Bool, true, false, cond, ◌&&◌, List, length, Float}
+use Rattle.refusal.specs.Verdicts.{good, Verdict, first_of, checked_numbers}
+use Rattle.std.specs.Prelude.{Result, Err, Ok, ℕ, ◌*◌, ◌^◌, Bool, true, false, cond, ◌&&◌, List, length, Float}
 use Rattle.std.specs.Float.Ieee.{le, neg}
 use Rattle.lists.specs.Fold.{fold}
 use Rattle.numbers.specs.Number.{positive}
 use Rattle.numbers.specs.Slice.{at}
+use Rattle.refusal.specs.declared.Refusal.{Refusal}
 use Rattle.refusal.specs.declared.Refusal.TheVariants.{InvalidTolerance, EigensolverDidNotConverge}
-use Rattle.refusal.specs.declared.Verdict.{Verdict}
-use Rattle.refusal.specs.declared.Verdict.TheVariants.{Good, Refused}
-use Rattle.refusal.specs.Verdicts.{first_of, checked_numbers}
 use Rattle.entries.specs.Entries.{entries}
 use Rattle.eigen.specs.Jacobi.{Values, values, unknown_values, eigenvalues_of}
 use Rattle.choi.specs.Choi.{choi_of, choi_tested}
-use Rattle.positivity.specs.declared.Positivity.{Positivity}
-use Rattle.positivity.specs.declared.Positivity.TheVariants as positivity
 
 -- each is at least the bound; a NaN is not
 unfoldable pub none_below : Float → List Float → Bool
@@ -25,8 +22,8 @@ choi_values n tolerance rotations transfer = eigenvalues_of (4 ^ n) tolerance ro
 
 -- refusal 12
 abbrev pub known : Values → Verdict
-known (values w) = Good
-known unknown_values = Refused EigensolverDidNotConverge
+known (values w) = good
+known unknown_values = Err EigensolverDidNotConverge
 
 -- whether all are known and none is below the bound
 abbrev pub all_from : Float → Values → Bool
@@ -35,7 +32,7 @@ all_from bound unknown_values = false
 
 -- what the Rust tests of a tolerance
 unfoldable pub tolerance_of : Float → Verdict
-tolerance_of tolerance = cond (positive tolerance) Good (Refused InvalidTolerance)
+tolerance_of tolerance = cond (positive tolerance) good (Err InvalidTolerance)
 
 -- the tests in the Rust's order: of the transfer matrix, of the tolerance, of the Choi matrix, and whether the rotations are enough
 unfoldable pub positivity_verdict : ℕ → Float → ℕ → List Float → Verdict
@@ -48,10 +45,14 @@ positivity_verdict n tolerance rotations transfer =
 unfoldable pub completely_positive : ℕ → Float → ℕ → List Float → Bool
 completely_positive n tolerance rotations transfer = all_from (neg tolerance) (choi_values n tolerance rotations transfer)
 
+-- whether a process is completely positive, or why that is not said
+abbrev pub Positivity : Type 0
+Positivity = Result Bool Refusal
+
 -- what a good verdict lets be told
 abbrev pub told : Verdict → Bool → Positivity
-told Good b = positivity.Known b
-told (Refused r) b = positivity.Refused r
+told (Ok _) b = Ok b
+told (Err r) b = Err r
 
 -- what eigenvalues tell
 abbrev pub judged : Float → Values → Positivity

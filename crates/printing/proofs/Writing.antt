@@ -1,5 +1,6 @@
 -- Writes one after the other, lines one after the other, and a word's digits. Assumes nothing.
-use Rattle.std.proofs.Common.{ℕ, ◌+◌, ◌-◌, ◌^◌, List, [], ◌∷◌, ◌++◌, ◌≡◌, ap, refl, subst, ◌∙◌, sym, false, length, replicate, arith, append-nil}
+use Rattle.std.specs.Simd.{first_chunks}
+use Rattle.std.proofs.Common.{ℕ, zero, suc, ◌+◌, ◌*◌, ◌<◌, ◌≤◌, get_or, ◌-◌, ◌^◌, List, [], ◌∷◌, ◌++◌, ◌≡◌, ap, refl, subst, ◌∙◌, sym, false, length, replicate, arith, append-nil}
 use Rattle.std.specs.declared.option.Option.{Option}
 use Rattle.std.specs.Fmt.{padded_integral, format_spec, char_count}
 use Rattle.std.proofs.KnownBytes.{Appends-nil, Appends-trans}
@@ -41,3 +42,14 @@ module _ {W : Type 0} {contents : W → Option (List ℕ)} where
   pub writes_one_more : {o p q : Output W} (n : ℕ) (line : ℕ → List ℕ) → Writes contents o p (lines_text (build n line)) → Writes contents p q (line n ++ 10 ∷ [])
       → Writes contents o q (lines_text (build (n + 1) line))
   writes_one_more {o = o} {q = q} n line a b = subst (Writes contents o q) (sym (lines_more n line)) (writes_both a b)
+
+-- entry k of a matrix is the pair of its two words
+pub entry_at : (k m : ℕ) (words : List ℕ) → k < m → 2 * m ≤ length words → get_or (first_chunks 2 m words) k [] ≡ get_or words (2 * k) 0 ∷ get_or words (2 * k + 1) 0 ∷ []
+entry_at k zero words h l = absurd (omega arith)
+entry_at k (suc m) [] h l = absurd (omega arith)
+entry_at k (suc m) (a ∷ []) h l = absurd (omega arith)
+entry_at zero (suc m) (a ∷ b ∷ words) h l = refl
+entry_at (suc k) (suc m) (a ∷ b ∷ words) h l =
+    let e : 2 * suc k ≡ suc (suc (2 * k)) = omega arith in
+    let f : 2 * suc k + 1 ≡ suc (suc (2 * k + 1)) = omega arith in
+    rw (f, e) (entry_at k m words (omega arith) (omega arith))

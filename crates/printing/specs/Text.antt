@@ -1,15 +1,14 @@
 -- The lines of a sheet: its header, and below it the words or entries that the result holds, as far as it holds them.
-use Rattle.std.specs.Prelude.{ℕ, Bool, ◌+◌, ◌-◌, ◌*◌, List, [], ◌∷◌, ◌++◌, false, cond, ◌&&◌, leb, length, get_or, replicate, codes}
+use Rattle.std.specs.Prelude.{Err, Ok, ℕ, Bool, ◌+◌, ◌-◌, ◌*◌, List, [], ◌∷◌, ◌++◌, false, cond, ◌&&◌, leb, length, get_or, replicate, codes}
 use Rattle.std.specs.List.{flat_map}
 use Rattle.std.specs.Fmt.{decimal, digits}
 use Rattle.lists.specs.Build.{build}
 use Rattle.refusal.specs.declared.Refusal.{Refusal}
 use Rattle.refusal.specs.Values.{code_of, value_a, value_b}
 use Rattle.outcome.specs.declared.Answer.{Answer}
-use Rattle.outcome.specs.declared.Answer.TheVariants.{Density, Projected, Process, Physical, Fit, Model, Diagnostics, Probes, Setting, Applied, Choi, Probabilities, Refused}
-use Rattle.outcome.specs.Outcome.{bit_of}
-use Rattle.card.specs.declared.Reading.{Reading}
-use Rattle.card.specs.declared.Reading.TheVariants as reading
+use Rattle.outcome.specs.declared.Answer.TheVariants.{Density, Projected, Process, Physical, Fit, Model, Diagnostics, Probes, Setting, Applied, Choi, Probabilities}
+use Rattle.outcome.specs.Outcome.{Answered, bit_of}
+use Rattle.card.specs.Reading.{Reading}
 
 -- lines, each with its end
 abbrev pub lines_text : List (List ℕ) → List ℕ
@@ -55,21 +54,25 @@ entries_shown d words = cond (leb d 64 && leb (2 * (d * d)) (length words)) (bui
 abbrev pub fit_shown : ℕ → List ℕ → List (List ℕ)
 fit_shown model words = cond (leb model 4096) (words_shown (6 + model) words) []
 
-abbrev pub sheet_lines : Answer → List ℕ → List (List ℕ)
-sheet_lines (Density d) words = header_line (codes "density") d ∷ entries_shown d words
-sheet_lines (Projected d) words = header_line (codes "projected") d ∷ entries_shown d words
-sheet_lines (Process p) words = header_line (codes "process") p ∷ square_shown p words
-sheet_lines (Physical t u c) words = tests_line t u c ∷ []
-sheet_lines (Fit r s e v m) words = fit_line r s e v ∷ fit_shown m words
-sheet_lines (Model m) words = header_line (codes "model") m ∷ words_shown m words
-sheet_lines Diagnostics words = codes "diagnostics" ∷ words_shown 2 words
-sheet_lines (Probes p) words = header_line (codes "probes") p ∷ square_shown p words
-sheet_lines (Setting n) words = header_line (codes "setting") n ∷ words_shown n words
-sheet_lines (Applied p) words = header_line (codes "applied") p ∷ words_shown p words
-sheet_lines (Choi d) words = header_line (codes "choi") d ∷ entries_shown d words
-sheet_lines (Probabilities c) words = header_line (codes "probabilities") c ∷ words_shown c words
-sheet_lines (Refused r) words = refusal_line r ∷ []
+abbrev pub answer_lines : Answer → List ℕ → List (List ℕ)
+answer_lines (Density d) words = header_line (codes "density") d ∷ entries_shown d words
+answer_lines (Projected d) words = header_line (codes "projected") d ∷ entries_shown d words
+answer_lines (Process p) words = header_line (codes "process") p ∷ square_shown p words
+answer_lines (Physical t u c) words = tests_line t u c ∷ []
+answer_lines (Fit r s e v m) words = fit_line r s e v ∷ fit_shown m words
+answer_lines (Model m) words = header_line (codes "model") m ∷ words_shown m words
+answer_lines Diagnostics words = codes "diagnostics" ∷ words_shown 2 words
+answer_lines (Probes p) words = header_line (codes "probes") p ∷ square_shown p words
+answer_lines (Setting n) words = header_line (codes "setting") n ∷ words_shown n words
+answer_lines (Applied p) words = header_line (codes "applied") p ∷ words_shown p words
+answer_lines (Choi d) words = header_line (codes "choi") d ∷ entries_shown d words
+answer_lines (Probabilities c) words = header_line (codes "probabilities") c ∷ words_shown c words
+
+-- of a call
+abbrev pub sheet_lines : Answered → List ℕ → List (List ℕ)
+sheet_lines (Ok a) words = answer_lines a words
+sheet_lines (Err r) words = refusal_line r ∷ []
 
 abbrev pub reading_lines : Reading → List (List ℕ)
-reading_lines (reading.Accepted h) = header_line (codes "read") h.kind ∷ []
-reading_lines (reading.Refused r) = refusal_line r ∷ []
+reading_lines (Ok h) = header_line (codes "read") h.kind ∷ []
+reading_lines (Err r) = refusal_line r ∷ []

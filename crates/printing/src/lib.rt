@@ -5,30 +5,19 @@ ghost use Rattle.std.specs.Prelude.{◌≡◌, ◌+◌, ◌*◌, ◌≤◌, ◌<
 ghost use Rattle.std.specs.Fmt.{decimal};
 ghost use Rattle.lists.specs.Build.{build};
 ghost use Rattle.printing.specs.Outputs.{Writes};
-ghost use Rattle.printing.specs.Text.{lines_text, word_text, header_line, refusal_line, tests_line, fit_line, word_line, entry_line, words_shown, square_shown, entries_shown, fit_shown, sheet_lines, reading_lines};
-ghost use Rattle.printing.specs.Lines.{word_lines, square_lines, entry_lines, fit_lines, lines_of};
+ghost use Rattle.printing.specs.Text.{lines_text, header_line, refusal_line, tests_line, fit_line, word_line, entry_line, words_shown, square_shown, entries_shown, fit_shown, answer_lines, sheet_lines, reading_lines};
+ghost use Rattle.printing.specs.Lines.{word_lines, square_lines, entry_lines, fit_lines, answer_line_count, lines_of};
 
-use card::Reading;
-use outcome::{Answer, bit_of};
+use card_layout::Header;
+use outcome::Answer;
 use refusal::Refusal;
 use std::io::Write;
 
 mod output;
+mod word;
 
 pub use output::Output;
-
-fn print_number<W: Write>(out: &mut Output<W>, n: u64, end: &str)
-    ensures { Writes W.contents out.old out.new (decimal n ++ end.now) }
-{
-    write!(out, "{n}{end}");
-}
-
-// 16 digits, whatever the word.
-fn print_word<W: Write>(out: &mut Output<W>, w: u64, end: &str)
-    ensures { Writes W.contents out.old out.new (word_text w ++ end.now) }
-{
-    write!(out, "{w:016x}{end}");
-}
+use word::Word;
 
 fn print_header<W: Write>(out: &mut Output<W>, name: &str, n: u64)
     ensures { Writes W.contents out.old out.new (header_line name.now n ++ 10 ∷ []) }
@@ -41,28 +30,24 @@ pub fn print_refusal<W: Write>(out: &mut Output<W>, r: Refusal) -> usize
     ensures lines { result ≡ 1 }
     ensures text { Writes W.contents out.old out.new (refusal_line r ++ 10 ∷ []) }
 {
-    write!(out, "refused ");
-    print_number(out, refusal::code(r), " ");
-    print_word(out, refusal::value_a(r), " ");
-    print_word(out, refusal::value_b(r), "\n");
+    writeln!(
+        out,
+        "refused {} {} {}",
+        r.code(),
+        Word(r.value_a()),
+        Word(r.value_b())
+    );
     1
 }
 
-// Entry i of a matrix: its real and its imaginary part.
-fn print_entry<W: Write>(out: &mut Output<W>, res: &[u64], i: usize)
-    requires { 2 * i + 1 < length res.now }
-    ensures { Writes W.contents out.old out.new (entry_line res.now i ++ 10 ∷ []) }
-{
-    print_word(out, res[2 * i], " ");
-    print_word(out, res[2 * i + 1], "\n");
-}
-
+// The entries of a matrix: the real and the imaginary part of each.
 fn print_entries<W: Write>(out: &mut Output<W>, res: &[u64], count: usize)
     requires { 2 * count ≤ length res.now }
     ensures { Writes W.contents out.old out.new (lines_text (build count (entry_line res.now))) }
 {
-    for i in 0..count {
-        print_entry(out, res, i);
+    let (entries, _) = res.as_chunks::<2>();
+    for [re, im] in &entries[..count] {
+        writeln!(out, "{} {}", Word(*re), Word(*im));
     }
 }
 
@@ -87,8 +72,8 @@ fn print_words<W: Write>(out: &mut Output<W>, res: &[u64], count: usize)
     requires { count ≤ length res.now }
     ensures { Writes W.contents out.old out.new (lines_text (build count (word_line res.now))) }
 {
-    for i in 0..count {
-        print_word(out, res[i], "\n");
+    for w in &res[..count] {
+        writeln!(out, "{}", Word(*w));
     }
 }
 
@@ -140,10 +125,8 @@ fn print_tests<W: Write>(out: &mut Output<W>, t: bool, u: bool, c: bool) -> usiz
     ensures lines { result ≡ 1 }
     ensures text { Writes W.contents out.old out.new (tests_line t u c ++ 10 ∷ []) }
 {
-    write!(out, "physical ");
-    print_number(out, bit_of(t), " ");
-    print_number(out, bit_of(u), " ");
-    print_number(out, bit_of(c), "\n");
+    let (t, u, c) = (u64::from(t), u64::from(u), u64::from(c));
+    writeln!(out, "physical {t} {u} {c}");
     1
 }
 
@@ -160,25 +143,20 @@ fn print_fit<W: Write>(
     ensures lines { result ≡ fit_lines words (length res.now) }
     ensures text { Writes W.contents out.old out.new (lines_text (fit_line stop steps evaluations converged ∷ fit_shown words res.now)) }
 {
-    write!(out, "fit ");
-    print_number(out, stop, " ");
-    print_number(out, steps, " ");
-    print_number(out, evaluations, " ");
-    print_number(out, bit_of(converged), "\n");
+    let converged = u64::from(converged);
+    writeln!(out, "fit {stop} {steps} {evaluations} {converged}");
     if 4096 < words {
         return 1;
     }
     print_body(out, 6 + words, res)
 }
 
-// The sheet of an answer whose numbers stand in the result, or its refusal; how many lines that is.
-pub fn print_sheet<W: Write>(out: &mut Output<W>, answer: Answer, res: &[u64]) -> usize
-    ensures lines { result ≡ lines_of answer (length res.now) }
-    ensures count { result ≡ length (sheet_lines answer res.now) }
-    ensures text { Writes W.contents out.old out.new (lines_text (sheet_lines answer res.now)) }
+// The sheet of an answer whose numbers stand in the result; how many lines that is.
+fn print_answer<W: Write>(out: &mut Output<W>, answer: Answer, res: &[u64]) -> usize
+    ensures lines { result ≡ answer_line_count answer (length res.now) }
+    ensures text { Writes W.contents out.old out.new (lines_text (answer_lines answer res.now)) }
 {
     match answer {
-        Answer::Refused(r) => print_refusal(out, r),
         Answer::Density { dimension } => print_matrix(out, "density", dimension, res),
         Answer::Projected { dimension } => print_matrix(out, "projected", dimension, res),
         Answer::Process { size } => print_square(out, "process", size, res),
@@ -204,17 +182,32 @@ pub fn print_sheet<W: Write>(out: &mut Output<W>, answer: Answer, res: &[u64]) -
     }
 }
 
+// The sheet of an answer, or its refusal; how many lines that is.
+pub fn print_sheet<W: Write>(
+    out: &mut Output<W>,
+    answer: Result<Answer, Refusal>,
+    res: &[u64],
+) -> usize
+    ensures lines { result ≡ lines_of answer (length res.now) }
+    ensures count { result ≡ length (sheet_lines answer res.now) }
+    ensures text { Writes W.contents out.old out.new (lines_text (sheet_lines answer res.now)) }
+{
+    match answer {
+        Ok(told) => print_answer(out, told, res),
+        Err(r) => print_refusal(out, r),
+    }
+}
+
 // `read K` of a card of kind K that the reader accepts, or its refusal: one line.
-pub fn print_reading<W: Write>(out: &mut Output<W>, reading: Reading) -> usize
+pub fn print_reading<W: Write>(out: &mut Output<W>, reading: Result<Header, Refusal>) -> usize
     ensures lines { result ≡ 1 }
     ensures text { Writes W.contents out.old out.new (lines_text (reading_lines reading)) }
 {
     match reading {
-        Reading::Refused(r) => print_refusal(out, r),
-        Reading::Accepted(h) => {
-            let kind = h.kind;
-            print_header(out, "read", kind as u64);
+        Ok(h) => {
+            print_header(out, "read", h.kind as u64);
             1
         }
+        Err(r) => print_refusal(out, r),
     }
 }

@@ -1,4 +1,6 @@
 -- Verdicts that are not refusal 16, the one that only the length of a slice decides. Assumes nothing.
+use Rattle.std.proofs.Common.{Err, Ok}
+use Rattle.refusal.specs.Verdicts.{good, Verdict, first_of, finite_or, checked_numbers}
 use Prim.Native.Nat.{ℕ}
 use mathlib.Core.Path.{◌≡◌, refl, ap, ◌∙◌}
 use mathlib.Core.Bool.{Bool, true, false, cond}
@@ -12,22 +14,19 @@ use Rattle.lists.proofs.Folding.{fold-keeps}
 use Rattle.numbers.specs.Slice.{all_finite}
 use Rattle.refusal.specs.declared.Refusal.{Refusal}
 use Rattle.refusal.specs.declared.Refusal.TheVariants.{Shape, NonFinite}
-use Rattle.refusal.specs.declared.Verdict.{Verdict}
-use Rattle.refusal.specs.declared.Verdict.TheVariants.{Good, Refused}
 use Rattle.refusal.specs.Values.{code_of}
-use Rattle.refusal.specs.Verdicts.{first_of, finite_or, checked_numbers}
 use Rattle.refusal.proofs.Verdicts.{never-good}
 
 pub record Lower (v : Verdict) : Type 0 where
-  pub low : (r : Refusal) → v ≡ Refused r → code_of r ≡ 16 → ⊥
+  pub low : (r : Refusal) → v ≡ Err r → code_of r ≡ 16 → ⊥
 
-pub lower-good : Lower Good
+pub lower-good : Lower good
 lower-good = record { low = λ r e. absurd (never-good e) }
 
-pub lower-refused : (r : Refusal) → (code_of r ≡ 16 → ⊥) → Lower (Refused r)
+pub lower-refused : (r : Refusal) → (code_of r ≡ 16 → ⊥) → Lower (Err r)
 lower-refused r h = record { low = λ q e z. h (same r q e ∙ z) }
   where
-    same : (r q : Refusal) → Refused r ≡ Refused q → code_of r ≡ code_of q
+    same : (r q : Refusal) → ◌≡◌ {A = Verdict} (Err r) (Err q) → code_of r ≡ code_of q
     same r q e = let f : r ≡ q = cc in ap code_of f
 
 pub lower-either : (b : Bool) {x y : Verdict} → Lower x → Lower y → Lower (cond b x y)
@@ -35,16 +34,16 @@ lower-either true p q = p
 lower-either false p q = q
 
 -- one test, which refuses by r
-pub lower-test : (b : Bool) (r : Refusal) → (code_of r ≡ 16 → ⊥) → Lower (cond b Good (Refused r))
+pub lower-test : (b : Bool) (r : Refusal) → (code_of r ≡ 16 → ⊥) → Lower (cond b good (Err r))
 lower-test b r h = lower-either b lower-good (lower-refused r h)
 
 pub lower-first : {x y : Verdict} → Lower x → Lower y → Lower (first_of x y)
-lower-first {x = Good} p q = q
-lower-first {x = Refused r} p q = p
+lower-first {x = Ok _} p q = q
+lower-first {x = Err r} p q = p
 
 -- tests in a row
-pub lower-each : (n : ℕ) (f : ℕ → Verdict) → ((i : ℕ) → Lower (f i)) → Lower (fold n (λ i v. first_of v (f i)) Good)
-lower-each n f h = fold-keeps _ Lower n Good lower-good (λ i v _ p. lower-first p (h i))
+pub lower-each : (n : ℕ) (f : ℕ → Verdict) → ((i : ℕ) → Lower (f i)) → Lower (fold n (λ i v. first_of v (f i)) good)
+lower-each n f h = fold-keeps _ Lower n good lower-good (λ i v _ p. lower-first p (h i))
 
 pub lower-finite : (r : Refusal) (xs : List Float) → (code_of r ≡ 16 → ⊥) → Lower (finite_or r xs)
 unfolding finite_or

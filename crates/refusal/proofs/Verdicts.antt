@@ -1,4 +1,6 @@
 -- What a good verdict says of what was tested. Assumes nothing.
+use Rattle.std.proofs.Common.{◌+◌, add-one, Err, Ok}
+use Rattle.refusal.specs.Verdicts.{good, Verdict, first_of, finite_or, checked_numbers}
 use Prim.Native.Nat.{ℕ, zero, suc, ◌<◌}
 use mathlib.Core.Path.{◌≡◌, refl, sym, subst}
 use mathlib.Core.Bool.{Bool, true, false, cond}
@@ -11,42 +13,93 @@ use lib.Dec.{eqb}
 use lib.ListN.{length}
 use lib.Ieee.{Float}
 use Rattle.lists.specs.Fold.{fold}
+use Rattle.numbers.specs.Slice.{all_finite}
 use Rattle.refusal.specs.declared.Refusal.{Refusal}
 use Rattle.refusal.specs.declared.Refusal.TheVariants.{Shape, NonFinite}
-use Rattle.refusal.specs.declared.Verdict.{Verdict}
-use Rattle.refusal.specs.declared.Verdict.TheVariants.{Good, Refused}
-use Rattle.refusal.specs.Verdicts.{first_of, finite_or, checked_numbers}
 
-pub never-good : {r : Refusal} → Good ≡ Refused r → ⊥
+pub never-good : {r : Refusal} → good ≡ Err r → ⊥
 never-good e = let z : ◌≡◌ {A = ℕ} 0 1 = cc in omega arith
 
-pub both-good : (a b : Verdict) → Good ≡ first_of a b → (Good ≡ a) × (Good ≡ b)
-both-good Good b e = (refl, e)
-both-good (Refused r) b e = absurd (never-good e)
+pub both-good : (a b : Verdict) → good ≡ first_of a b → (good ≡ a) × (good ≡ b)
+both-good (Ok _) b e = (refl, e)
+both-good (Err r) b e = absurd (never-good e)
 
 -- a test was passed on the way to a good verdict: one that refuses where it holds, and one that refuses where it does not
-pub passed : (b : Bool) (r : Refusal) (v : Verdict) → Good ≡ cond b (Refused r) v → (b ≡ false) × (Good ≡ v)
+pub passed : (b : Bool) (r : Refusal) (v : Verdict) → good ≡ cond b (Err r) v → (b ≡ false) × (good ≡ v)
 passed true r v e = absurd (never-good e)
 passed false r v e = (refl, e)
 
-pub held : (b : Bool) (r : Refusal) → Good ≡ cond b Good (Refused r) → b ≡ true
+pub held : (b : Bool) (r : Refusal) → good ≡ cond b good (Err r) → b ≡ true
 held true r e = refl
 held false r e = absurd (never-good e)
 
+-- what a test of numbers says of them
+pub finite-held : (r : Refusal) (xs : List Float) → good ≡ finite_or r xs → all_finite xs ≡ true
+unfolding finite_or
+finite-held r xs e = held (all_finite xs) r e
+
+pub finite-refused : (r x : Refusal) (xs : List Float) → Err x ≡ finite_or r xs → (x ≡ r) × (all_finite xs ≡ false)
+unfolding finite_or
+finite-refused r x xs e = go (all_finite xs) e
+  where
+    go : (b : Bool) → Err x ≡ cond b good (Err r) → (x ≡ r) × (b ≡ false)
+    go true e = absurd (never-good (sym e))
+    go false e = (cc, refl)
+
 -- of tests in a row that find nothing, each finds nothing
-pub each-good : (n : ℕ) (f : ℕ → Verdict) → fold n (λ i v. first_of v (f i)) Good ≡ Good → (i : ℕ) → i < n → f i ≡ Good
+pub each-good : (n : ℕ) (f : ℕ → Verdict) → fold n (λ i v. first_of v (f i)) good ≡ good → (i : ℕ) → i < n → f i ≡ good
 unfolding fold
 each-good zero f e i l = absurd (not-suc-le-zero l)
 each-good (suc n) f e i l =
-    let b = both-good (fold n (λ i v. first_of v (f i)) Good) (f n) (sym e) in
-    ⊎_elim (λ (q : i ≡ n). subst (λ (k : ℕ). f k ≡ Good) (sym q) (sym b.1)) (λ (q : i < n). each-good n f (sym b.0) i q)
+    let b = both-good (fold n (λ i v. first_of v (f i)) good) (f n) (sym e) in
+    ⊎_elim (λ (q : i ≡ n). subst (λ (k : ℕ). f k ≡ good) (sym q) (sym b.1)) (λ (q : i < n). each-good n f (sym b.0) i q)
     (eq-or-lt_of_le (le_of_suc-le-suc l))
 
+-- ---- two tests in a row, as calls made them
+
+pub first-refuses : (a b : Verdict) (r : Refusal) → a ≡ Err r → Err r ≡ first_of a b
+first-refuses a b r e = rw e refl
+
+pub second-decides : (a b w : Verdict) → a ≡ good → w ≡ b → w ≡ first_of a b
+second-decides a b w e f = rw e f
+
+-- ---- tests in a row, as a loop makes them that ends at the first refusal
+
+module _ (f : ℕ → Verdict) where
+  abbrev pub tested : ℕ → Verdict
+  tested n = fold n (λ i v. first_of v (f i)) good
+
+  pub tested-none : tested 0 ≡ good
+  unfolding fold
+  tested-none = refl
+
+  -- one test more that finds nothing
+  pub tested-more : (i : ℕ) → tested i ≡ good → f i ≡ good → tested (i + 1) ≡ good
+  unfolding fold
+  tested-more i e h = rw (add-one, e) h
+
+  -- a refusal stays
+  stays-refused : (n : ℕ) (r : Refusal) → tested n ≡ Err r → tested (suc n) ≡ Err r
+  unfolding fold
+  stays-refused n r e = rw e refl
+
+  -- the first refusal is the outcome
+  pub tested-ends : (n i : ℕ) (r : Refusal) → i < n → tested i ≡ good → f i ≡ Err r → tested n ≡ Err r
+  unfolding fold
+  tested-ends zero i r l e h = absurd (not-suc-le-zero l)
+  tested-ends (suc n) i r l e h =
+      ⊎_elim (λ (q : i ≡ n). let k : f n ≡ Err r = subst (λ (j : ℕ). f j ≡ Err r) q h in let m : tested n ≡ good = subst (λ (j : ℕ). tested j ≡ good) q e in rw m k)
+      (λ (q : i < n). stays-refused n r (tested-ends n i r q e h))
+      (eq-or-lt_of_le (le_of_suc-le-suc l))
+
+  pub tested-all : (n i : ℕ) → i ≡ n → tested i ≡ good → good ≡ tested n
+  tested-all n i e h = sym (subst (λ (j : ℕ). tested j ≡ good) e h)
+
 -- as many numbers as wanted
-pub good_length : (wanted : ℕ) (xs : List Float) → Good ≡ checked_numbers wanted xs → length xs ≡ wanted
+pub good_length : (wanted : ℕ) (xs : List Float) → good ≡ checked_numbers wanted xs → length xs ≡ wanted
 unfolding checked_numbers
 good_length wanted xs e = go (eqb (length xs) wanted) refl e
   where
-    go : (b : Bool) → eqb (length xs) wanted ≡ b → Good ≡ cond b (finite_or NonFinite xs) (Refused (Shape wanted (length xs))) → length xs ≡ wanted
+    go : (b : Bool) → eqb (length xs) wanted ≡ b → good ≡ cond b (finite_or NonFinite xs) (Err (Shape wanted (length xs))) → length xs ≡ wanted
     go true q e = eqb-true (length xs) wanted q
     go false q e = absurd (never-good e)

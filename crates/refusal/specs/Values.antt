@@ -1,6 +1,8 @@
 -- Document 01's table of refusals: the number N of each case, and its values A and B, zero where none is named.
 use Rattle.std.specs.Prelude.{ℕ}
 use Rattle.numbers.specs.Number.{word}
+use Rattle.refusal.specs.declared.Reason.{Reason}
+use Rattle.refusal.specs.declared.Reason.TheVariants.{Controls, NoRecords, NoCoordinates, RepeatedCoordinate, GradientNotFinite, Name}
 use Rattle.refusal.specs.declared.Refusal.{Refusal}
 use Rattle.refusal.specs.declared.Refusal.TheVariants.{InvalidQubits, Shape, NonFinite, InvalidNormalization, InvalidTolerance, Operator, UnknownGate, InvalidProbabilities, CountOverflow, SingularGaugeTransform, SingularProcessDesign, EigensolverDidNotConverge, InvalidGstOptimization, InvalidGstParameter, InvalidCard, ShortBuffer}
 
@@ -23,6 +25,15 @@ code_of (InvalidGstParameter place) = 14
 code_of (InvalidCard place) = 15
 code_of ShortBuffer = 16
 
+-- A of refusal 13
+abbrev pub reason_number : Reason → ℕ
+reason_number Controls = 1
+reason_number NoRecords = 2
+reason_number NoCoordinates = 3
+reason_number RepeatedCoordinate = 4
+reason_number GradientNotFinite = 5
+reason_number Name = 6
+
 -- A
 abbrev pub value_a : Refusal → ℕ
 value_a InvalidQubits = 0
@@ -37,7 +48,7 @@ value_a CountOverflow = 0
 value_a SingularGaugeTransform = 0
 value_a SingularProcessDesign = 0
 value_a EigensolverDidNotConverge = 0
-value_a (InvalidGstOptimization reason) = reason
+value_a (InvalidGstOptimization reason) = reason_number reason
 value_a (InvalidGstParameter place) = place
 value_a (InvalidCard place) = place
 value_a ShortBuffer = 0

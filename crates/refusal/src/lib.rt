@@ -1,11 +1,39 @@
 // Refusals, in document 01's sense: the cases of the Rust's `TomographyError`, and those that the card adds. Each has a number N and two values A and B.
+// What tests something answers `Result<(), Refusal>`.
 #![tactic(auto)]
 
 ghost use Rattle.std.specs.Prelude.{◌≡◌};
-ghost use Rattle.refusal.specs.Values.{code_of, value_a, value_b};
-ghost use Rattle.refusal.specs.Verdicts.{first_of, finite_or, checked_numbers};
+ghost use Rattle.refusal.specs.Values.{code_of, reason_number, value_a, value_b};
+ghost use Rattle.refusal.specs.Verdicts.{finite_or, checked_numbers};
 
-#[derive(Clone, Copy)]
+// Why a fit cannot be run, which the Rust says in words.
+#[derive(Clone, Copy, Debug, PartialEq, Eq)]
+pub enum Reason {
+    Controls,
+    NoRecords,
+    NoCoordinates,
+    RepeatedCoordinate,
+    GradientNotFinite,
+    Name,
+}
+
+impl Reason {
+    // A of the refusal.
+    pub fn number(self) -> u64
+        ensures { result ≡ reason_number self }
+    {
+        match self {
+            Reason::Controls => 1,
+            Reason::NoRecords => 2,
+            Reason::NoCoordinates => 3,
+            Reason::RepeatedCoordinate => 4,
+            Reason::GradientNotFinite => 5,
+            Reason::Name => 6,
+        }
+    }
+}
+
+#[derive(Clone, Copy, Debug, PartialEq)]
 pub enum Refusal {
     InvalidQubits,
     // Words or values wanted, and found.
@@ -22,8 +50,7 @@ pub enum Refusal {
     SingularGaugeTransform,
     SingularProcessDesign,
     EigensolverDidNotConverge,
-    // The reason: 1 for the controls, 2 for no records, 3 for no coordinates, 4 for a coordinate that stands twice, 5 for a gradient that is not finite, 6 for a bad name.
-    InvalidGstOptimization(u64),
+    InvalidGstOptimization(Reason),
     // The place among the coordinates.
     InvalidGstParameter(u64),
     // The place of a word of the card.
@@ -32,124 +59,77 @@ pub enum Refusal {
     ShortBuffer,
 }
 
-// What the tests of something find: nothing amiss, or a refusal.
-#[derive(Clone, Copy)]
-pub enum Verdict {
-    Good,
-    Refused(Refusal),
-}
+impl Refusal {
+    // N.
+    pub fn code(self) -> u64
+        ensures { result ≡ code_of self }
+    {
+        match self {
+            Refusal::InvalidQubits => 1,
+            Refusal::Shape { .. } => 2,
+            Refusal::NonFinite => 3,
+            Refusal::InvalidNormalization(_) => 4,
+            Refusal::InvalidTolerance => 5,
+            Refusal::Operator => 6,
+            Refusal::UnknownGate(_) => 7,
+            Refusal::InvalidProbabilities => 8,
+            Refusal::CountOverflow => 9,
+            Refusal::SingularGaugeTransform => 10,
+            Refusal::SingularProcessDesign => 11,
+            Refusal::EigensolverDidNotConverge => 12,
+            Refusal::InvalidGstOptimization(_) => 13,
+            Refusal::InvalidGstParameter(_) => 14,
+            Refusal::InvalidCard(_) => 15,
+            Refusal::ShortBuffer => 16,
+        }
+    }
 
-// The first of two verdicts that refuses.
-pub fn first_of(a: Verdict, b: Verdict) -> Verdict
-    ensures { result ≡ first_of a b }
-{
-    match a {
-        Verdict::Refused(r) => Verdict::Refused(r),
-        Verdict::Good => b,
+    // A.
+    pub fn value_a(self) -> u64
+        ensures { result ≡ value_a self }
+    {
+        match self {
+            Refusal::Shape { expected, .. } => expected,
+            Refusal::InvalidNormalization(x) => numbers::word_of(x),
+            Refusal::UnknownGate(gate) => gate,
+            Refusal::InvalidGstOptimization(reason) => reason.number(),
+            Refusal::InvalidGstParameter(place) => place,
+            Refusal::InvalidCard(place) => place,
+            _ => 0,
+        }
+    }
+
+    // B.
+    pub fn value_b(self) -> u64
+        ensures { result ≡ value_b self }
+    {
+        match self {
+            Refusal::Shape { actual, .. } => actual,
+            _ => 0,
+        }
     }
 }
 
 // Refuses numbers that are not all finite.
-pub fn finite_or(r: Refusal, xs: &[f64]) -> Verdict
+pub fn finite_or(r: Refusal, xs: &[f64]) -> Result<(), Refusal>
     ensures { result ≡ finite_or r xs.now }
 {
     if numbers::all_finite(xs) {
-        return Verdict::Good;
+        return Ok(());
     }
-    Verdict::Refused(r)
+    Err(r)
 }
 
 // Refuses numbers that are not as many as wanted, or not all finite.
-pub fn check_numbers(wanted: usize, xs: &[f64]) -> Verdict
+pub fn check_numbers(wanted: usize, xs: &[f64]) -> Result<(), Refusal>
     ensures { result ≡ checked_numbers wanted xs.now }
 {
     let found = xs.len();
     if found == wanted {
         return finite_or(Refusal::NonFinite, xs);
     }
-    Verdict::Refused(Refusal::Shape {
+    Err(Refusal::Shape {
         expected: wanted as u64,
         actual: found as u64,
     })
-}
-
-// N.
-pub fn code(r: Refusal) -> u64
-    ensures { result ≡ code_of r }
-{
-    match r {
-        Refusal::InvalidQubits => 1,
-        Refusal::Shape {
-            expected: _,
-            actual: _,
-        } => 2,
-        Refusal::NonFinite => 3,
-        Refusal::InvalidNormalization(_) => 4,
-        Refusal::InvalidTolerance => 5,
-        Refusal::Operator => 6,
-        Refusal::UnknownGate(_) => 7,
-        Refusal::InvalidProbabilities => 8,
-        Refusal::CountOverflow => 9,
-        Refusal::SingularGaugeTransform => 10,
-        Refusal::SingularProcessDesign => 11,
-        Refusal::EigensolverDidNotConverge => 12,
-        Refusal::InvalidGstOptimization(_) => 13,
-        Refusal::InvalidGstParameter(_) => 14,
-        Refusal::InvalidCard(_) => 15,
-        Refusal::ShortBuffer => 16,
-    }
-}
-
-// A.
-pub fn value_a(r: Refusal) -> u64
-    ensures { result ≡ value_a r }
-{
-    match r {
-        Refusal::InvalidQubits => 0,
-        Refusal::Shape {
-            expected,
-            actual: _,
-        } => expected,
-        Refusal::NonFinite => 0,
-        Refusal::InvalidNormalization(x) => numbers::word_of(x),
-        Refusal::InvalidTolerance => 0,
-        Refusal::Operator => 0,
-        Refusal::UnknownGate(g) => g,
-        Refusal::InvalidProbabilities => 0,
-        Refusal::CountOverflow => 0,
-        Refusal::SingularGaugeTransform => 0,
-        Refusal::SingularProcessDesign => 0,
-        Refusal::EigensolverDidNotConverge => 0,
-        Refusal::InvalidGstOptimization(reason) => reason,
-        Refusal::InvalidGstParameter(place) => place,
-        Refusal::InvalidCard(place) => place,
-        Refusal::ShortBuffer => 0,
-    }
-}
-
-// B.
-pub fn value_b(r: Refusal) -> u64
-    ensures { result ≡ value_b r }
-{
-    match r {
-        Refusal::InvalidQubits => 0,
-        Refusal::Shape {
-            expected: _,
-            actual,
-        } => actual,
-        Refusal::NonFinite => 0,
-        Refusal::InvalidNormalization(_) => 0,
-        Refusal::InvalidTolerance => 0,
-        Refusal::Operator => 0,
-        Refusal::UnknownGate(_) => 0,
-        Refusal::InvalidProbabilities => 0,
-        Refusal::CountOverflow => 0,
-        Refusal::SingularGaugeTransform => 0,
-        Refusal::SingularProcessDesign => 0,
-        Refusal::EigensolverDidNotConverge => 0,
-        Refusal::InvalidGstOptimization(_) => 0,
-        Refusal::InvalidGstParameter(_) => 0,
-        Refusal::InvalidCard(_) => 0,
-        Refusal::ShortBuffer => 0,
-    }
 }

@@ -15,7 +15,7 @@ use Rattle.rounding.proofs.Below.{Below}
 use Rattle.significand.specs.Significand.{significand_of, exponent_of}
 use Rattle.root.specs.Root.{near_root, root_of, sqrt}
 use Rattle.root.proofs.Cases.{of_positive}
-use Rattle.root.proofs.Nearest.{nearest, not_infinite}
+use Rattle.root.proofs.Nearest.{nearest}
 
 -- the units of a root
 root-value : (x : Float) → finite x ≡ true → lt zero_f x ≡ true → HasValue (sqrt x) false (units_of (sqrt x)) units_in_one
@@ -24,7 +24,7 @@ root-value x g l =
     let m = significand_of x in
     let n = exponent_of x in
     let p = near_root 53 (m * 2 ^ (n % 2) * 2 ^ 52) * 2 ^ (n / 2 + 485) in
-    let v : HasValue (sqrt x) false p units_in_one = rw (of_positive x l (not_infinite x g)) (odd_sign 53 false (near_root 53 (m * 2 ^ (n % 2) * 2 ^ 52)) (n / 2 + 485) 1074) in
+    let v : HasValue (sqrt x) false p units_in_one = rw (of_positive x l g) (odd_sign 53 false (near_root 53 (m * 2 ^ (n % 2) * 2 ^ 52)) (n / 2 + 485) 1074) in
     subst (λ (a : ℕ). HasValue (sqrt x) false a units_in_one) (sym (units-of-value (sqrt x) false p v)) v
 
 -- K is nearer than a root v above it, if a is at most its square

@@ -1,6 +1,6 @@
 -- The cases of a square root. Assumes nothing.
 use mathlib.Core.Path.{◌≡◌, refl, sym, ◌∙◌, subst}
-use mathlib.Core.Bool.{true, false, beq, ◌||◌}
+use mathlib.Core.Bool.{Bool, true, false, cond, beq, ◌||◌}
 use Prim.Native.Nat.{ℕ, zero, suc, ◌+◌, ◌*◌, ◌/◌, ◌%◌, ◌^◌, ◌<◌, ◌≤◌}
 use native.Mathlib.Nat.{mul-one, zero-mul, mul-pos, zero-lt-suc}
 use native.Mathlib.Omega.{arith}
@@ -8,25 +8,22 @@ use lib.IntN.{ℤ}
 use lib.Dec.{T, eqb, eqb→eq}
 use lib.Ieee.{Float, nan, inf, fin, binary64, up, down, of_bits, lt, eq}
 use lib.Ieee.Fits.{up_pos, and_l}
-use borrow.Author.Tests.{ltb-false}
+use borrow.Author.Tests.{ltb-false, eqb-true, eqb-false}
+use Rattle.numbers.specs.Number.{finite}
 use Rattle.numbers.proofs.Leaves.{clash, nought}
 use Rattle.rounding.proofs.Units.{pattern-of-units}
 use Rattle.significand.specs.Significand.{significand_of, exponent_of}
 use Rattle.root.specs.Root.{near_root, root_of, sqrt}
 
-pub of-infinity : (x : Float) → eq x (inf false) ≡ true → x ≡ sqrt x
-unfolding eq sqrt
-of-infinity nan h = clash h
-of-infinity (inf true) h = clash h
-of-infinity (inf false) h = refl
-of-infinity (fin s m e) h = clash h
+pub of-infinity : (x : Float) → x ≡ inf false → x ≡ sqrt x
+unfolding sqrt
+of-infinity x e = rw e refl
 
 -- a finite number above zero
-pub of_positive : (x : Float) → lt nought x ≡ true → eq x (inf false) ≡ false → sqrt x ≡ root_of (significand_of x) (exponent_of x)
-unfolding lt eq sqrt
+pub of_positive : (x : Float) → lt nought x ≡ true → finite x ≡ true → sqrt x ≡ root_of (significand_of x) (exponent_of x)
+unfolding lt finite sqrt
 of_positive nan h g = clash h
-of_positive (inf true) h g = clash h
-of_positive (inf false) h g = clash (sym g)
+of_positive (inf s) h g = clash g
 of_positive (fin true m e) h g = clash h
 of_positive (fin false zero e) h g = clash (simp zero-mul at h)
 of_positive (fin false (suc m) e) h g = refl
@@ -61,5 +58,9 @@ whole-root m n b k p e g r h l u = pattern-of-units (n / 2 + 485) p (omega arith
 pub once : (m b : ℕ) → b ≡ 0 → m ≡ m * 2 ^ b
 once m b e = rw (e, mul-one)
 
-pub twice : (m b : ℕ) → (b ≡ 0 → ⊥) → b < 2 → m + m ≡ m * 2 ^ b
-twice m b n h = let e : b ≡ 1 = omega arith in rw e (omega arith)
+pub doubled : (m n : ℕ) → cond (eqb (n % 2) 1) (2 * m) m ≡ m * 2 ^ (n % 2)
+doubled m n = go (eqb (n % 2) 1) refl
+  where
+    go : (b : Bool) → eqb (n % 2) 1 ≡ b → cond b (2 * m) m ≡ m * 2 ^ (n % 2)
+    go true e = let f : n % 2 ≡ 1 = eqb-true _ _ e in rw f (omega arith)
+    go false e = let f : n % 2 ≡ 0 = omega (arith, eqb-false _ _ e) in once m (n % 2) f

@@ -18,7 +18,6 @@ use Rattle.significand.proofs.Pattern.{of-high}
 use Rattle.root.specs.Root.{root_of, sqrt}
 use Rattle.root.specs.Search.{Found, FromOne}
 use Rattle.root.proofs.Cases.{of_positive, whole-root, once}
-use Rattle.root.proofs.Nearest.{not_infinite}
 
 -- what a word from that of 1 to that of 2 holds
 pub from_one : (x : Float) (r : ℕ) → T (fits binary64 x) → to_bits binary64 x ≡ 0x3fe0_0000_0000_0000 + r → 2 ^ 52 ≤ r → r < 2 ^ 53 → FromOne x r
@@ -33,7 +32,7 @@ root-from-one x r o =
     let s = of-high x f a.0 (λ z. omega (arith, o.low, o.high)) in
     let m : significand_of x ≡ r = sym s.0 ∙ omega (arith, o.low, o.high) in
     let n : exponent_of x ≡ 1074 = sym s.1 ∙ omega (arith, o.low, o.high) in
-    of_positive x a.1 (not_infinite x a.0) ∙ rw (m, n)
+    of_positive x a.1 a.0 ∙ rw (m, n)
 
 -- d is the root of x, if its digits are those of the nearest whole number
 pub by_digits : (x d : Float) (m p : ℕ) → FromOne x m → FromOne d p → Found m p → d ≡ sqrt x

@@ -7,10 +7,9 @@ use native.Mathlib.Nat.{le_trans, le_of_eq, le_of_lt, lt_of_lt_of_le, lt_of_le_o
 use native.Mathlib.Omega.{arith}
 use lib.Dec.{T, lit<}
 use lib.Pow.{pow-add, pow_pos, pow_mono, shl_lt}
-use lib.Ieee.{Float, nan, inf, fin, binary64, fits, eq, lt, of_bits}
+use lib.Ieee.{Float, nan, inf, fin, binary64, fits, lt, of_bits}
 use lib.Ieee.Exact.{HasValue, odd_sign}
 use Rattle.numbers.specs.Number.{finite, negative, zero_f}
-use Rattle.numbers.proofs.Leaves.{clash}
 use Rattle.rounding.specs.Units.{units_in_one, units_of}
 use Rattle.rounding.proofs.Units.{counted, units-of-value, above_zero}
 use Rattle.significand.specs.Significand.{significand_of, exponent_of}
@@ -90,13 +89,6 @@ value-finite nan s a c h = absurd h
 value-finite (inf t) s a c h = absurd h
 value-finite (fin t m e) s a c h = (refl, h.0)
 
--- no infinity is a finite number
-pub not_infinite : (x : Float) → finite x ≡ true → eq x (inf false) ≡ false
-unfolding finite eq
-not_infinite nan h = refl
-not_infinite (inf s) h = clash h
-not_infinite (fin s m e) h = refl
-
 -- the number of p * 2 ^ h units, where p is the whole number nearest the root of n and x * units_in_one is n * 2 ^ (h + h) units
 of-near : (x r : Float) (n p h : ℕ) → HasValue r false (p * 2 ^ h) units_in_one → units_of x * units_in_one ≡ n * (2 ^ h * 2 ^ h) → NearRoot n p → 2 ^ 52 ≤ p → 2 ^ 104 ≤ n → Nearest x r
 of-near x r n p h value same near low large = record {
@@ -142,5 +134,5 @@ nearest x f g l =
     let b = bounds m (d % 2) e.low e.high (omega arith) in
     let n = m * 2 ^ (d % 2) * 2 ^ 52 in
     let near = near-root 53 n (lt_of_lt_of_le (pow_pos 104) b.0) (lt_of_le_of_lt b.1 (lit< tt)) in
-    rw (of_positive x l (not_infinite x g))
+    rw (of_positive x l g)
     (of-near x (root_of m d) n (near_root 53 n) (d / 2 + 485) (odd_sign 53 false (near_root 53 n) (d / 2 + 485) 1074) (scale (units_of x) m d e.is) near (near-bounds n (near_root 53 n) near b.0 b.1).0 b.0)

@@ -1,7 +1,7 @@
 // The square root of a number, to the nearest number.
 #![tactic(auto)]
 
-ghost use Rattle.std.specs.Prelude.{◌≡◌, ◌+◌, ◌-◌, ◌*◌, ◌/◌, ◌^◌, ◌≤◌, ◌<◌};
+ghost use Rattle.std.specs.Prelude.{◌≡◌, cond, ◌+◌, ◌-◌, ◌*◌, ◌/◌, ◌^◌, ◌≤◌, ◌<◌, ⊤, MatchOption};
 ghost use Rattle.root.specs.Root.{root_of, sqrt};
 ghost use Rattle.root.specs.Search.{Brackets, Found, FromOne};
 
@@ -10,11 +10,8 @@ fn middle(p: u64) -> u64
     requires { p < 2 ^ 53 }
     ensures { result ≡ (p * p + p) / 2 ^ 52 }
 {
-    let a = p / 134217728;
-    let b = p % 134217728;
-    let low = b * b + p;
-    let mid = a * b + low / 268435456;
-    a * a * 4 + mid / 16777216
+    let p = u128::from(p);
+    ((p * p + p) / 4503599627370496) as u64
 }
 
 #[derive(Clone, Copy)]
@@ -28,13 +25,12 @@ fn halved(m: u64, b: Bracket) -> Bracket
     requires { Brackets m b.lo b.hi × (b.lo + 1 < b.hi) }
     ensures { Brackets m result.lo result.hi × (result.hi - result.lo < b.hi - b.lo) }
 {
-    let lo = b.lo;
-    let hi = b.hi;
-    let p = lo + (hi - lo) / 2;
+    let p = b.lo + (b.hi - b.lo) / 2;
     if m <= middle(p) {
-        return Bracket { lo, hi: p };
+        Bracket { hi: p, ..b }
+    } else {
+        Bracket { lo: p, ..b }
     }
-    Bracket { lo: p, hi }
 }
 
 // The whole number nearest the root of m * 2^52, with no guess.
@@ -42,14 +38,14 @@ fn searched_root(m: u64) -> u64
     requires { (2 ^ 52 ≤ m) × (m ≤ 2 ^ 54 - 2) }
     ensures { Found m result }
 {
-    let mut lo = 4503599627370495;
-    let mut hi = 9007199254740991;
-    while hi - lo > 1 {
-        let b = halved(m, Bracket { lo, hi });
-        lo = b.lo;
-        hi = b.hi;
+    let mut b = Bracket {
+        lo: 4503599627370495,
+        hi: 9007199254740991,
+    };
+    while b.hi - b.lo > 1 {
+        b = halved(m, b);
     }
-    hi
+    b.hi
 }
 
 // The same from a guess: that, or its neighbour, or, were it farther off, by the search.
@@ -79,12 +75,9 @@ fn about(f: f64) -> f64 {
         + s * ((0.2009936 * f - 0.4836471) + s * (0.0051715622 * f - 0.049134792))
 }
 
-// The root of 1, or of 2 where `twice` is 1.
-fn root_of_factor(twice: u64) -> f64 {
-    if twice == 0 {
-        return 1.0;
-    }
-    1.4142135623730951
+// The root of 1, or of 2 where `odd`.
+fn root_of_factor(odd: bool) -> f64 {
+    if odd { 1.4142135623730951 } else { 1.0 }
 }
 
 // A step of Halley's method for the root of f, from y with 25 binary digits after the point, so that its square is exact.
@@ -94,41 +87,38 @@ fn nearer(f: f64, y: f64) -> f64 {
     r + (f - s) * (r + r) / (3.0 * s + f)
 }
 
-// About the root of m, or of 2m where `twice` is 1, as a number of 53 digits. Nothing is promised of how near it is.
-fn guess(m: u64, twice: u64) -> u64
-    requires { (2 ^ 52 ≤ m) × (m < 2 ^ 53) × (twice < 2) }
+// About the root of m, or of 2m where `odd`, as a number of 53 digits. Nothing is promised of how near it is.
+fn guess(m: u64, odd: bool) -> u64
+    requires { (2 ^ 52 ≤ m) × (m < 2 ^ 53) }
     ensures { (2 ^ 52 ≤ result) × (result < 2 ^ 53) }
 {
-    let y = about(f64::from_bits(0x3fe0_0000_0000_0000 + m)) * root_of_factor(twice);
+    let y = about(f64::from_bits(0x3fe0_0000_0000_0000 + m)) * root_of_factor(odd);
     let d = nearer(
-        f64::from_bits(0x3fe0_0000_0000_0000 + twice * 4503599627370496 + m),
+        f64::from_bits(0x3fe0_0000_0000_0000 + u64::from(odd) * 4503599627370496 + m),
         y,
     );
-    if d != d {
+    if d.is_nan() {
         return 4503599627370496;
     }
-    f64::to_bits(d) % 4503599627370496 + 4503599627370496
+    d.to_bits() % 4503599627370496 + 4503599627370496
 }
 
-// m, or 2m where `twice` is 1.
-fn scaled(m: u64, twice: u64) -> u64
-    requires { (m < 2 ^ 53) × (twice < 2) }
-    ensures { (result ≡ m * 2 ^ twice) × (m ≤ result) × (result ≤ 2 * m) }
+// m, or 2m where `odd`.
+fn scaled(m: u64, odd: bool) -> u64
+    requires { m < 2 ^ 53 }
+    ensures { (result ≡ cond odd (2 * m) m) × (m ≤ result) × (result ≤ 2 * m) }
 {
-    if twice == 0 {
-        return m;
-    }
-    m + m
+    if odd { 2 * m } else { m }
 }
 
-// The root of m * 2^n / 2^1126. No branch is taken on whether n is odd, since the processor cannot foresee it.
+// The root of m * 2^n / 2^1126.
 fn root_of(m: u64, n: u64) -> f64
     requires { (2 ^ 52 ≤ m) × (m < 2 ^ 53) × (n ≤ 2097) }
     ensures { result ≡ root_of m n }
 {
     let d = n / 2 + 485;
-    let twice = n % 2;
-    let p = near_root(scaled(m, twice), guess(m, twice));
+    let odd = n % 2 == 1;
+    let p = near_root(scaled(m, odd), guess(m, odd));
     f64::from_bits(d * 4503599627370496 + p)
 }
 
@@ -137,52 +127,55 @@ pub fn sqrt(x: f64) -> f64
     ensures { result ≡ sqrt x }
 {
     if x > 0.0 {
-        if x == 1.0 / 0.0 {
-            return x;
-        }
-        let p = significand::parts_of(x);
-        return root_of(p.significand, p.exponent);
+        return match significand::parts_of(x) {
+            Some(p) => root_of(p.significand, p.exponent),
+            // the infinity
+            None => x,
+        };
     }
     if x == 0.0 {
         return x;
     }
-    0.0 / 0.0
+    f64::NAN
 }
 
-// The digits of an x from 1 to 2, as a whole number, and 0 for another.
-fn digits(x: f64) -> u64
-    ensures { (result ≡ 0 → ⊥) → FromOne x result }
+// The digits of an x from 1 to 2, as a whole number.
+fn digits(x: f64) -> Option<u64>
+    ensures { MatchOption result ⊤ (FromOne x) }
 {
-    if x != x {
-        return 0;
+    if x.is_nan() {
+        return None;
     }
-    let w = f64::to_bits(x);
+    let w = x.to_bits();
     if w < 0x3ff0_0000_0000_0000 {
-        return 0;
+        return None;
     }
     if 0x4000_0000_0000_0000 <= w {
-        return 0;
+        return None;
     }
-    w - 0x3fe0_0000_0000_0000
+    Some(w - 0x3fe0_0000_0000_0000)
 }
 
-// The square root, and sooner than by `sqrt` where x is from 1 to 2: no digits are moved on the way.
+// The root of an x from 1 to 2, where one step leads to it: no digits are moved on the way.
+fn sooner(x: f64) -> Option<f64>
+    ensures { MatchOption result ⊤ (λ r. r ≡ sqrt x) }
+{
+    let m = digits(x)?;
+    let d = nearer(x, about(x));
+    let p = digits(d)?;
+    if m <= middle(p) && middle(p - 1) < m {
+        Some(d)
+    } else {
+        None
+    }
+}
+
+// The square root, and sooner than by `sqrt` where x is from 1 to 2.
 pub fn sqrt_from_one(x: f64) -> f64
     ensures { result ≡ sqrt x }
 {
-    let m = digits(x);
-    if m == 0 {
-        return sqrt(x);
+    match sooner(x) {
+        Some(r) => r,
+        None => sqrt(x),
     }
-    let d = nearer(x, about(x));
-    let p = digits(d);
-    if p == 0 {
-        return sqrt(x);
-    }
-    if m <= middle(p) {
-        if middle(p - 1) < m {
-            return d;
-        }
-    }
-    sqrt(x)
 }

@@ -1,4 +1,6 @@
 -- Sizes of a model within the limits; a sequence that was copied, and its gates by columns; what the verdicts say. Assumes nothing.
+use Rattle.std.proofs.Common.{Err}
+use Rattle.refusal.specs.Verdicts.{good, Verdict, first_of}
 use Prim.Native.Nat.{ℕ, ◌+◌, ◌*◌, ◌≤◌, ◌<◌}
 use mathlib.Core.Path.{◌≡◌, sym, ap, subst, ◌∙◌}
 use mathlib.Core.Bool.{◌||◌}
@@ -11,9 +13,6 @@ use lib.Ieee.{Float}
 use Rattle.lists.proofs.Parts.{row_fits}
 use Rattle.booleans.proofs.Joined.{neither}
 use Rattle.refusal.specs.declared.Refusal.{Refusal}
-use Rattle.refusal.specs.declared.Verdict.{Verdict}
-use Rattle.refusal.specs.declared.Verdict.TheVariants.{Good, Refused}
-use Rattle.refusal.specs.Verdicts.{first_of}
 use Rattle.refusal.proofs.Verdicts.{both-good, passed, held}
 use Rattle.card_layout.specs.Limits.{limits_of}
 use Rattle.model.specs.Checked.{tested_of}
@@ -28,7 +27,7 @@ products d e g s =
     (mul-le-mul s.effects s.dimension, q, mul-le-mul s.gates q)
 
 -- `room` holds the sequence, whose gates are there
-module _ (gates : ℕ) (sequence room : List ℕ) (copied : room ≡ sequence) (good : present_of gates sequence ≡ Good) where
+module _ (gates : ℕ) (sequence room : List ℕ) (copied : room ≡ sequence) (good : present_of gates sequence ≡ good) where
   -- each gate lies among the columns
   pub gates-lie : (d n : ℕ) → gates * (d * d) ≤ n → (k : ℕ) → k < length room → get_or room k 0 * (d * d) + d * d ≤ n
   gates-lie d n h = subst (λ (l : List ℕ). (k : ℕ) → k < length l → get_or l k 0 * (d * d) + d * d ≤ n) (sym copied) (λ k l. row_fits (get_or sequence k 0) gates (d * d) n (present-below gates sequence good k l) h)
@@ -39,15 +38,15 @@ module _ (gates : ℕ) (sequence room : List ℕ) (copied : room ≡ sequence) (
 
 -- ---- of two verdicts in a row the first decides, or the second: w is the first, as a call gave it
 module _ (x y w : Verdict) (e : w ≡ x) where
-  pub stops : (r : Refusal) → w ≡ Refused r → Refused r ≡ first_of x y
+  pub stops : (r : Refusal) → w ≡ Err r → Err r ≡ first_of x y
   stops r f = ap (λ (v : Verdict). first_of v y) (sym f ∙ e)
 
-  pub goes_on : (v : Verdict) → w ≡ Good → v ≡ y → v ≡ first_of x y
+  pub goes_on : (v : Verdict) → w ≡ good → v ≡ y → v ≡ first_of x y
   goes_on v f h = h ∙ ap (λ (v : Verdict). first_of v y) (sym f ∙ e)
 
 -- ---- what good verdicts say
 
-pub within : (d e g n : ℕ) → Good ≡ limits_verdict d e g n → Sized d e g × (n ≤ 64)
+pub within : (d e g n : ℕ) → good ≡ limits_verdict d e g n → Sized d e g × (n ≤ 64)
 unfolding limits_verdict limits_of
 within d e g n h =
     let a = neither (ltb 16 d) (ltb 16 e || (ltb 8 g || ltb 64 n)) (passed _ _ _ h).0 in
@@ -55,7 +54,7 @@ within d e g n h =
     let c = neither (ltb 8 g) (ltb 64 n) b.1 in
     (record { dimension = ltb-false 16 d a.0; effects = ltb-false 16 e b.0; gates = ltb-false 8 g c.0 }, ltb-false 64 n c.1)
 
-pub counted : (wanted : ℕ) (m : List Float) → Good ≡ counted_of wanted m → length m ≡ wanted
+pub counted : (wanted : ℕ) (m : List Float) → good ≡ counted_of wanted m → length m ≡ wanted
 unfolding counted_of
 counted wanted m h = eqb-true (length m) wanted (held _ _ h)
 
@@ -64,9 +63,9 @@ pub record Fitting (d e : ℕ) (names : List ℕ) (m : List Float) (sequence : L
   pub sized : Sized d e (length names)
   pub short : length sequence ≤ 64
   pub count : length m ≡ model_size d e (length names)
-  pub present : present_of (length names) sequence ≡ Good
+  pub present : present_of (length names) sequence ≡ good
 
-pub fitting : (d e : ℕ) (names : List ℕ) (m : List Float) (sequence : List ℕ) → Good ≡ sequence_verdict d e names m sequence → Fitting d e names m sequence
+pub fitting : (d e : ℕ) (names : List ℕ) (m : List Float) (sequence : List ℕ) → good ≡ sequence_verdict d e names m sequence → Fitting d e names m sequence
 unfolding sequence_verdict given_verdict
 fitting d e names m sequence h =
     let a = both-good (limits_verdict d e (length names) (length sequence)) _ h in

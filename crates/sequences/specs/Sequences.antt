@@ -1,10 +1,8 @@
 -- The Rust's `GateSetModel::probabilities` over a model that is given in slices (document 01's library entry): what is tested before it, in order. The model has a
 -- word for the name of each gate, and its numbers in the card's order; a sequence is gate indices.
-use Rattle.std.specs.Prelude.{ℕ, ◌+◌, ◌*◌, ◌≤◌, cond, ◌||◌, List, eqb, ltb, length, get_or, Float}
+use Rattle.refusal.specs.Verdicts.{good, Verdict, first_of}
+use Rattle.std.specs.Prelude.{Err, ℕ, ◌+◌, ◌*◌, ◌≤◌, cond, ◌||◌, List, eqb, ltb, length, get_or, Float}
 use Rattle.refusal.specs.declared.Refusal.TheVariants.{Shape, InvalidCard}
-use Rattle.refusal.specs.declared.Verdict.{Verdict}
-use Rattle.refusal.specs.declared.Verdict.TheVariants.{Good, Refused}
-use Rattle.refusal.specs.Verdicts.{first_of}
 use Rattle.card_layout.specs.Limits.{limits_of, longest}
 use Rattle.model.specs.Checked.{Parts, tested_of}
 use Rattle.gate_set.specs.GateSet.{state_in, effect_in, gate_in, present_of}
@@ -13,7 +11,7 @@ use Rattle.gate_set.specs.GateSet.{state_in, effect_in, gate_in, present_of}
 unfoldable pub limits_verdict : ℕ → ℕ → ℕ → ℕ → Verdict
 limits_verdict d effects gates n =
     let most = limits_of 7 in
-    cond (ltb most.dimension d || (ltb most.effects effects || (ltb most.gates gates || ltb longest n))) (Refused (InvalidCard 0)) Good
+    cond (ltb most.dimension d || (ltb most.effects effects || (ltb most.gates gates || ltb longest n))) (Err (InvalidCard 0)) good
 
 -- a model within them
 pub record Sized (d e g : ℕ) : Type 0 where
@@ -27,7 +25,7 @@ model_size d effects gates = d + effects * d + gates * (d * d)
 
 -- as many numbers as wanted
 unfoldable pub counted_of : ℕ → List Float → Verdict
-counted_of wanted numbers = cond (eqb (length numbers) wanted) Good (Refused (Shape wanted (length numbers)))
+counted_of wanted numbers = cond (eqb (length numbers) wanted) good (Err (Shape wanted (length numbers)))
 
 -- gate g's name
 abbrev pub name_in : List ℕ → ℕ → ℕ

@@ -1,4 +1,6 @@
 -- Every sheet is sound: a refusal writes nothing, and none is refusal 16. Assumes nothing.
+use Rattle.std.proofs.Common.{Err, Ok}
+use Rattle.refusal.specs.Verdicts.{good, Verdict, after}
 use Prim.Native.Nat.{ℕ, ◌*◌, ◌^◌}
 use mathlib.Core.Path.{refl}
 use mathlib.Core.Bool.{not, cond}
@@ -10,16 +12,12 @@ use Rattle.numbers.specs.Number.{one_f, ◌-ᶠ◌, abs, positive}
 use Rattle.numbers.specs.Word.{word_at}
 use Rattle.numbers.specs.Slice.{at, number_at, numbers_at, all_finite}
 use Rattle.refusal.specs.declared.Refusal.TheVariants.{NonFinite, InvalidNormalization, InvalidTolerance, Operator, SingularGaugeTransform, SingularProcessDesign, EigensolverDidNotConverge}
-use Rattle.refusal.specs.declared.Verdict.{Verdict}
-use Rattle.refusal.specs.declared.Verdict.TheVariants.{Good, Refused}
-use Rattle.refusal.specs.Verdicts.{after}
 use Rattle.pauli.specs.Density.{density_of, vet_of, admitted, tested_of}
 use Rattle.inversion.specs.Inversion.{invertible}
 use Rattle.transfer.specs.Vectors.{vector_of, vetted_of}
-use Rattle.eigen.specs.Jacobi.{Spectrum, spectrum, unknown}
+use Rattle.eigen.specs.Jacobi.{Spectrum, spectrum, unknown, Values, values, unknown_values}
 use Rattle.density.specs.Projection.{spectral_numbers, spectral_verdict, admission, spectrum_of, projected_verdict}
 use Rattle.transfer.specs.Process.{inputs_of, transfer_of, solved_of, screened}
-use Rattle.eigen.specs.Jacobi.{Values, values, unknown_values}
 use Rattle.choi.specs.Choi.{choi_of, choi_tested}
 use Rattle.positivity.specs.Positivity.{known, tolerance_of, choi_values, positivity_verdict}
 use Rattle.card_layout.specs.declared.Header.{Header}
@@ -31,9 +29,9 @@ use Rattle.outcome.proofs.Refusals.{Sound, shown-sound}
 use Rattle.sheets.specs.Sheets.{vectors_of, density_sheet, estimate_of, projected_sheet, process_sheet_of, physical_of, gauge_verdict, gauge_sheet}
 
 -- a test's own refusal, or what follows a verdict
-lower-after : {v w : Verdict} → Lower v → Lower w → Lower (after v Refused w)
-lower-after {v = Good} p q = q
-lower-after {v = Refused r} p q = p
+lower-after : {v w : Verdict} → Lower v → Lower w → Lower (after v Err w)
+lower-after {v = Ok _} p q = q
+lower-after {v = Err r} p q = p
 
 lower-vet : (t : Float) (es : List Float) → Lower (vet_of t es)
 unfolding vet_of
@@ -41,13 +39,13 @@ lower-vet t es =
     lower-either (not (all_finite es)) (lower-refused NonFinite (eqb-false 3 16 refl))
     (lower-either (lt t (abs (at es 0 -ᶠ one_f))) (lower-refused (InvalidNormalization (at es 0)) (eqb-false 4 16 refl)) lower-good)
 
-by-tolerance : (t : Float) {v w : Verdict} → Lower v → Lower w → Lower (cond (not (positive t)) (Refused InvalidTolerance) (after v Refused w))
+by-tolerance : (t : Float) {v w : Verdict} → Lower v → Lower w → Lower (cond (not (positive t)) (Err InvalidTolerance) (after v Err w))
 by-tolerance t p q = lower-either (not (positive t)) (lower-refused InvalidTolerance (eqb-false 5 16 refl)) (lower-after p q)
 
 pub density-sound : (s : List ℕ) (n : ℕ) → Sound (density_sheet s n)
 unfolding density_sheet admitted tested_of
 density-sound s n =
-    shown-sound _ _ _ (by-tolerance (number_at s 1) (lower-vet (number_at s 1) (numbers_at s 2 (4 ^ n))) (lower-finite Operator (density_of n (numbers_at s 2 (4 ^ n))) (eqb-false 6 16 refl))) refl
+    shown-sound _ _ _ (by-tolerance (number_at s 1) (lower-vet (number_at s 1) (numbers_at s 2 (4 ^ n))) (lower-finite Operator (density_of n (numbers_at s 2 (4 ^ n))) (eqb-false 6 16 refl)))
 
 lower-spectral : (d : ℕ) (s : Spectrum) → Lower (spectral_verdict d s)
 unfolding spectral_verdict
@@ -64,11 +62,10 @@ projected-sound s d =
     (lower-either (not (all_finite e)) (lower-refused NonFinite (eqb-false 3 16 refl))
     (lower-either (not (positive t)) (lower-refused InvalidTolerance (eqb-false 5 16 refl)) lower-good))
     (lower-spectral d (spectrum_of d t (word_at s 2) e)))
-    refl
 
 lower-vectors : (t : Float) (v : List Float) (p : ℕ) → Lower (vetted_of t v p)
 unfolding vetted_of
-lower-vectors t v p = fold-keeps _ Lower _ Good lower-good (λ k found _ q. lower-first q (lower-vet t (vector_of v p k)))
+lower-vectors t v p = fold-keeps _ Lower _ good lower-good (λ k found _ q. lower-first q (lower-vet t (vector_of v p k)))
 
 pub process-sound : (s : List ℕ) (p : ℕ) → Sound (process_sheet_of s p)
 unfolding process_sheet_of screened solved_of
@@ -78,7 +75,6 @@ process-sound s p =
     shown-sound _ _ _
     (by-tolerance t (lower-vectors t v p)
     (lower-either (not (invertible p t (inputs_of v p))) (lower-refused SingularProcessDesign (eqb-false 11 16 refl)) (lower-finite NonFinite (transfer_of t v p) (eqb-false 3 16 refl))))
-    refl
 
 lower-known : (v : Values) → Lower (known v)
 lower-known (values w) = lower-good
@@ -91,7 +87,6 @@ physical-sound n t rotations transfer =
     (lower-first (lower-numbers (4 ^ n * 4 ^ n) transfer)
     (lower-first (lower-either (positive t) lower-good (lower-refused InvalidTolerance (eqb-false 5 16 refl)))
     (lower-first (lower-finite Operator (choi_of n transfer) (eqb-false 6 16 refl)) (lower-known (choi_values n t rotations transfer)))))
-    refl
 
 pub gauge-sound : (s : List ℕ) (h : Header) → Sound (gauge_sheet s h)
 unfolding gauge_sheet gauge_verdict gauged_of gauge_inverted
@@ -104,4 +99,3 @@ gauge-sound s h =
     (lower-either (not (all_finite t)) (lower-refused NonFinite (eqb-false 3 16 refl))
     (lower-either (invertible d (threshold_of d) t) lower-good (lower-refused SingularGaugeTransform (eqb-false 10 16 refl))))
     (lower-finite NonFinite (new_model s h) (eqb-false 3 16 refl))))
-    refl

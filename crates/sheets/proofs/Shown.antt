@@ -1,4 +1,6 @@
 -- From a verdict and the numbers in the work slice to the sheet. Assumes nothing.
+use Rattle.std.proofs.Common.{Err, Ok}
+use Rattle.refusal.specs.Verdicts.{good, Verdict, first_of, after}
 use Prim.Native.Nat.{ℕ, ◌+◌, ◌*◌, ◌^◌, ◌≤◌}
 use mathlib.Core.Bool.{Bool}
 use mathlib.Core.Path.{◌≡◌, refl, sym, ap, ap₂, ◌∙◌}
@@ -12,9 +14,6 @@ use Rattle.lists.specs.Build.{over}
 use Rattle.numbers.specs.Word.{word_at}
 use Rattle.numbers.specs.Slice.{number_at, numbers_at, words_of}
 use Rattle.refusal.specs.declared.Refusal.{Refusal}
-use Rattle.refusal.specs.declared.Verdict.{Verdict}
-use Rattle.refusal.specs.declared.Verdict.TheVariants as verdict
-use Rattle.refusal.specs.Verdicts.{first_of, after}
 use Rattle.refusal.proofs.Verdicts.{both-good}
 use Rattle.pauli.specs.Density.{density_of, inverted_of, computed_of}
 use Rattle.pauli.proofs.Sums.{length-density}
@@ -24,9 +23,7 @@ use Rattle.density.proofs.Outcome.{length-projected}
 use Rattle.transfer.specs.Process.{transfer_of, process_of, process_numbers}
 use Rattle.transfer.proofs.Processes.{length-transfer, computed-process}
 use Rattle.physical.specs.Physical.{trace_preserving, unital}
-use Rattle.positivity.specs.declared.Positivity.{Positivity}
-use Rattle.positivity.specs.declared.Positivity.TheVariants as positivity
-use Rattle.positivity.specs.Positivity.{positivity_verdict, completely_positive, told}
+use Rattle.positivity.specs.Positivity.{Positivity, positivity_verdict, completely_positive, told}
 use Rattle.sizes.proofs.Small.{product_le, square-most, four-most}
 use Rattle.card_layout.specs.declared.Header.{Header}
 use Rattle.card_layout.specs.Limits.{Limited}
@@ -36,8 +33,8 @@ use Rattle.model_words.specs.Words.{model_numbers, model_words_of}
 use Rattle.gauge.specs.Gauge.{new_model, gauged_of, gauged_numbers}
 use Rattle.gauge.proofs.Gauges.{good-model, model-length}
 use Rattle.outcome.specs.declared.Answer.{Answer}
-use Rattle.outcome.specs.declared.Answer.TheVariants.{Density, Projected, Process, Physical, Model, Refused}
-use Rattle.outcome.specs.Outcome.{refused, shown, Gives}
+use Rattle.outcome.specs.declared.Answer.TheVariants.{Density, Projected, Process, Physical, Model}
+use Rattle.outcome.specs.Outcome.{Answered, refused, shown, Gives}
 use Rattle.outcome.proofs.Outcomes.{stays, same_outcome, same_answer, not-shown, is-shown, emitted}
 use Rattle.sheets.specs.Sheets.{vectors_of, density_sheet, estimate_of, projection_numbers, projected_sheet, process_sheet_of, process_sheet, physical_of, physical_sheet, gauge_verdict, gauge_numbers, gauge_sheet}
 
@@ -62,17 +59,17 @@ two-most n h = parts-most (2 ^ n) (pow-le-pow_right {n = 2} (lit< tt) {i = n} {j
 -- ---- kind 1
 
 module _ (s : List ℕ) (n : ℕ) (w : Verdict) (e : w ≡ inverted_of n (number_at s 1) (numbers_at s 2 (4 ^ n))) where
-  pub density-refused : (r : Refusal) → w ≡ verdict.Refused r → refused r ≡ density_sheet s n
+  pub density-refused : (r : Refusal) → w ≡ Err r → refused r ≡ density_sheet s n
   unfolding density_sheet
   density-refused r f = not-shown _ _ _ w r e f
 
-  pub density-shown : (d : ℕ) (work₀ work : List Float) (l m : List ℕ) → w ≡ verdict.Good → d ≡ 2 ^ n
-      → work ≡ over (computed_of n (number_at s 1) (numbers_at s 2 (4 ^ n))) work₀ → m ≡ words_of (2 * (d * d)) work ++ drop (2 * (d * d)) l → Gives (density_sheet s n) l m (Density d)
+  pub density-shown : (d : ℕ) (work₀ work : List Float) (l m : List ℕ) → w ≡ good → d ≡ 2 ^ n
+      → work ≡ over (computed_of n (number_at s 1) (numbers_at s 2 (4 ^ n))) work₀ → m ≡ words_of (2 * (d * d)) work ++ drop (2 * (d * d)) l → Gives (density_sheet s n) l m (Ok (Density d))
   unfolding density_sheet
   density-shown d work₀ work l m f k o p =
       let es = numbers_at s 2 (4 ^ n) in
       let c = computed-density n (number_at s 1) es (sym e ∙ f) in
-      same_answer (ap Density k)
+      same_answer (ap (λ (x : ℕ). Ok (Density x)) k)
       (is-shown _ _ _ w l m e f
       (emitted (density_of n es) (drop (length (density_of n es)) work₀) work (2 * (2 ^ n * 2 ^ n)) (2 * (d * d)) l m (length-density n (2 ^ n) es refl) (ap (λ (x : ℕ). 2 * (x * x)) k)
       (o ∙ ap (λ (x : List Float). over x work₀) c) p))
@@ -84,12 +81,12 @@ pub estimate-most : (d : ℕ) → d ≤ 16 → 2 * (d * d) ≤ 512
 estimate-most d h = omega (arith, square-most d h)
 
 module _ (s : List ℕ) (d : ℕ) (w : Verdict) (e : w ≡ projected_verdict d (number_at s 1) (word_at s 2) (estimate_of s d)) where
-  pub projected-refused : (r : Refusal) → w ≡ verdict.Refused r → refused r ≡ projected_sheet s d
+  pub projected-refused : (r : Refusal) → w ≡ Err r → refused r ≡ projected_sheet s d
   unfolding projected_sheet
   projected-refused r f = not-shown _ _ _ w r e f
 
-  pub projected-shown : (q : ℕ) (work₀ work : List Float) (l m : List ℕ) → w ≡ verdict.Good → q ≡ d * d
-      → work ≡ over (projection_numbers s d) work₀ → m ≡ words_of (2 * q) work ++ drop (2 * q) l → Gives (projected_sheet s d) l m (Projected d)
+  pub projected-shown : (q : ℕ) (work₀ work : List Float) (l m : List ℕ) → w ≡ good → q ≡ d * d
+      → work ≡ over (projection_numbers s d) work₀ → m ≡ words_of (2 * q) work ++ drop (2 * q) l → Gives (projected_sheet s d) l m (Ok (Projected d))
   unfolding projected_sheet
   projected-shown q work₀ work l m f k o p =
       let x = projection_numbers s d in
@@ -109,12 +106,12 @@ projection-of-card s d q t rotations e w x work₀ a b k f g =
 -- ---- kind 3
 
 module _ (s : List ℕ) (n p : ℕ) (k : p ≡ 4 ^ n) (w : Verdict) (e : w ≡ process_of (number_at s 1) (vectors_of s p) p) where
-  pub process-refused : (r : Refusal) → w ≡ verdict.Refused r → refused r ≡ process_sheet s n
+  pub process-refused : (r : Refusal) → w ≡ Err r → refused r ≡ process_sheet s n
   unfolding process_sheet_of
   process-refused r f = not-shown _ _ _ w r e f ∙ ap (process_sheet_of s) k
 
-  pub process-shown : (q : ℕ) (work₀ work : List Float) (l m : List ℕ) → w ≡ verdict.Good → q ≡ p * p
-      → work ≡ over (process_numbers (number_at s 1) (vectors_of s p) p) work₀ → m ≡ words_of q work ++ drop q l → Gives (process_sheet s n) l m (Process p)
+  pub process-shown : (q : ℕ) (work₀ work : List Float) (l m : List ℕ) → w ≡ good → q ≡ p * p
+      → work ≡ over (process_numbers (number_at s 1) (vectors_of s p) p) work₀ → m ≡ words_of q work ++ drop q l → Gives (process_sheet s n) l m (Ok (Process p))
   unfolding process_sheet_of
   process-shown q work₀ work l m f h o g =
       let t = number_at s 1 in
@@ -131,29 +128,29 @@ transfer-most n h = square-most (4 ^ n) (four-most n h)
 
 -- a sheet without numbers: what was found, and what is shown of it
 module _ (f : Bool → Answer) (found : Positivity) (l : List ℕ) where
-  pub told-refused : (v : Verdict) (b : Bool) (r : Refusal) → found ≡ told v b → found ≡ positivity.Refused r → Gives (shown v (f b) []) l l (Refused r)
-  told-refused verdict.Good b r e g = let z : ◌≡◌ {A = ℕ} 0 1 = cc in absurd (omega arith)
-  told-refused (verdict.Refused q) b r e g = let h : q ≡ r = cc in same_answer (ap Refused (sym h)) (stays l refl)
+  pub told-refused : (v : Verdict) (b : Bool) (r : Refusal) → found ≡ told v b → found ≡ Err r → Gives (shown v (f b) []) l l (Err r)
+  told-refused (Ok _) b r e g = let z : ◌≡◌ {A = ℕ} 0 1 = cc in absurd (omega arith)
+  told-refused (Err q) b r e g = let h : q ≡ r = cc in same_answer (ap Err (sym h)) (stays l refl)
 
-  pub told-known : (v : Verdict) (b c : Bool) → found ≡ told v b → found ≡ positivity.Known c → Gives (shown v (f b) []) l l (f c)
-  told-known verdict.Good b c e g = let h : b ≡ c = cc in same_answer (ap f (sym h)) (record { answer = refl; written = refl })
-  told-known (verdict.Refused q) b c e g = let z : ◌≡◌ {A = ℕ} 0 1 = cc in absurd (omega arith)
+  pub told-known : (v : Verdict) (b c : Bool) → found ≡ told v b → found ≡ Ok c → Gives (shown v (f b) []) l l (Ok (f c))
+  told-known (Ok _) b c e g = let h : b ≡ c = cc in same_answer (ap (λ (x : Bool). Ok (f x)) (sym h)) (record { answer = refl; written = refl })
+  told-known (Err q) b c e g = let z : ◌≡◌ {A = ℕ} 0 1 = cc in absurd (omega arith)
 
 module _ (n : ℕ) (t : Float) (rotations : ℕ) (transfer : List Float) (found : Positivity) (e : found ≡ told (positivity_verdict n t rotations transfer) (completely_positive n t rotations transfer)) where
-  pub physical-refused : (r : Refusal) → found ≡ positivity.Refused r → (l : List ℕ) → Gives (physical_of n t rotations transfer) l l (Refused r)
+  pub physical-refused : (r : Refusal) → found ≡ Err r → (l : List ℕ) → Gives (physical_of n t rotations transfer) l l (Err r)
   unfolding physical_of
   physical-refused r f l = told-refused (Physical (trace_preserving (4 ^ n) t transfer) (unital (4 ^ n) t transfer)) found l (positivity_verdict n t rotations transfer) (completely_positive n t rotations transfer) r e f
 
-  pub physical-shown : (p : ℕ) (a b c : Bool) → p ≡ 4 ^ n → found ≡ positivity.Known c → a ≡ trace_preserving p t transfer → b ≡ unital p t transfer
-      → (l : List ℕ) → Gives (physical_of n t rotations transfer) l l (Physical a b c)
+  pub physical-shown : (p : ℕ) (a b c : Bool) → p ≡ 4 ^ n → found ≡ Ok c → a ≡ trace_preserving p t transfer → b ≡ unital p t transfer
+      → (l : List ℕ) → Gives (physical_of n t rotations transfer) l l (Ok (Physical a b c))
   unfolding physical_of
   physical-shown p a b c k f g h l =
-      same_answer (ap₂ (λ (x y : Bool). Physical x y c) (g ∙ ap (λ (q : ℕ). trace_preserving q t transfer) k) (h ∙ ap (λ (q : ℕ). unital q t transfer) k))
+      same_answer (ap₂ (λ (x y : Bool). Ok (Physical x y c)) (g ∙ ap (λ (q : ℕ). trace_preserving q t transfer) k) (h ∙ ap (λ (q : ℕ). unital q t transfer) k))
       (told-known (Physical (trace_preserving (4 ^ n) t transfer) (unital (4 ^ n) t transfer)) found l (positivity_verdict n t rotations transfer) (completely_positive n t rotations transfer) c e f)
 
 -- the card's values, as they were loaded
 module _ (s : List ℕ) (n : ℕ) where
-  pub physical-of-card : (m : ℕ) (t : Float) (rotations : ℕ) (transfer : List Float) {r : Answer} → m ≡ 4 ^ n * 4 ^ n → t ≡ number_at s 1 → rotations ≡ word_at s 2 → transfer ≡ numbers_at s 3 m
+  pub physical-of-card : (m : ℕ) (t : Float) (rotations : ℕ) (transfer : List Float) {r : Answered} → m ≡ 4 ^ n * 4 ^ n → t ≡ number_at s 1 → rotations ≡ word_at s 2 → transfer ≡ numbers_at s 3 m
       → ((l : List ℕ) → Gives (physical_of n t rotations transfer) l l r) → (l : List ℕ) → Gives (physical_sheet s n) l l r
   physical-of-card m t rotations transfer k a b v g l =
       same_outcome
@@ -164,16 +161,16 @@ module _ (s : List ℕ) (n : ℕ) where
 
 module _ (s : List ℕ) (h : Header) where
   -- the model's verdict, as a call gave it
-  pub model-refused : (w : Verdict) (r : Refusal) → w ≡ checked_of s h → w ≡ verdict.Refused r → (verdict.Refused r ≡ gauge_verdict s h) × ([] ≡ gauge_numbers s h)
+  pub model-refused : (w : Verdict) (r : Refusal) → w ≡ checked_of s h → w ≡ Err r → (Err r ≡ gauge_verdict s h) × ([] ≡ gauge_numbers s h)
   unfolding gauge_verdict gauge_numbers
   model-refused w r e f = (ap (λ (x : Verdict). first_of x (gauged_of s h)) (sym f ∙ e), ap (λ (x : Verdict). after x (λ _. []) (gauged_numbers s h)) (sym f ∙ e))
 
-  pub model-good : (w : Verdict) → w ≡ checked_of s h → w ≡ verdict.Good → (gauged_of s h ≡ gauge_verdict s h) × (gauged_numbers s h ≡ gauge_numbers s h)
+  pub model-good : (w : Verdict) → w ≡ checked_of s h → w ≡ good → (gauged_of s h ≡ gauge_verdict s h) × (gauged_numbers s h ≡ gauge_numbers s h)
   unfolding gauge_verdict gauge_numbers
   model-good w e f = (ap (λ (x : Verdict). first_of x (gauged_of s h)) (sym f ∙ e), ap (λ (x : Verdict). after x (λ _. []) (gauged_numbers s h)) (sym f ∙ e))
 
   -- where all is good the new model was computed
-  pub new-model : verdict.Good ≡ gauge_verdict s h → gauge_numbers s h ≡ new_model s h
+  pub new-model : good ≡ gauge_verdict s h → gauge_numbers s h ≡ new_model s h
   unfolding gauge_verdict gauge_numbers
   new-model e =
       let b = both-good (checked_of s h) (gauged_of s h) e in
@@ -182,11 +179,11 @@ module _ (s : List ℕ) (h : Header) where
   pub length-new-model : (x : List Float) → x ≡ new_model s h → length x ≡ model_numbers h
   length-new-model x e = ap length e ∙ model-length s h
 
-  pub gauge-refused : (w : Verdict) (r : Refusal) → w ≡ gauge_verdict s h → w ≡ verdict.Refused r → refused r ≡ gauge_sheet s h
+  pub gauge-refused : (w : Verdict) (r : Refusal) → w ≡ gauge_verdict s h → w ≡ Err r → refused r ≡ gauge_sheet s h
   unfolding gauge_sheet
   gauge-refused w r e f = not-shown _ _ _ w r e f
 
-  pub gauge-shown : (w : Verdict) (count : ℕ) (front : List Float) (l m : List ℕ) → w ≡ gauge_verdict s h → w ≡ verdict.Good → count ≡ model_words h → front ≡ new_model s h
-      → m ≡ over (model_words_of s h front) l → Gives (gauge_sheet s h) l m (Model count)
+  pub gauge-shown : (w : Verdict) (count : ℕ) (front : List Float) (l m : List ℕ) → w ≡ gauge_verdict s h → w ≡ good → count ≡ model_words h → front ≡ new_model s h
+      → m ≡ over (model_words_of s h front) l → Gives (gauge_sheet s h) l m (Ok (Model count))
   unfolding gauge_sheet
-  gauge-shown w count front l m e f k g p = same_answer (ap Model k) (is-shown _ _ _ w l m e f (p ∙ ap (λ (x : List Float). over (model_words_of s h x) l) g))
+  gauge-shown w count front l m e f k g p = same_answer (ap (λ (x : ℕ). Ok (Model x)) k) (is-shown _ _ _ w l m e f (p ∙ ap (λ (x : List Float). over (model_words_of s h x) l) g))

@@ -2,8 +2,7 @@
 use Rattle.std.specs.Prelude.{ℕ, ◌*◌, ◌^◌, List, [], Float}
 use Rattle.numbers.specs.Word.{word_at}
 use Rattle.numbers.specs.Slice.{number_at, numbers_at, words_of}
-use Rattle.refusal.specs.declared.Verdict.{Verdict}
-use Rattle.refusal.specs.Verdicts.{first_of, after}
+use Rattle.refusal.specs.Verdicts.{Verdict, first_of, after}
 use Rattle.pauli.specs.Density.{density_of, inverted_of, computed_of}
 use Rattle.density.specs.Projection.{projected_verdict, projected_numbers}
 use Rattle.transfer.specs.Process.{transfer_of, process_of, process_numbers}

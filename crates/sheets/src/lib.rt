@@ -14,8 +14,7 @@ ghost use Rattle.sheets.specs.Sheets.{vectors_of, density_numbers, estimate_of, 
 
 use card_layout::Header;
 use outcome::Answer;
-use positivity::Positivity;
-use refusal::Verdict;
+use refusal::Refusal;
 use sizes::{four_to, square};
 
 // Word 1 of the kinds that have a tolerance there.
@@ -26,174 +25,148 @@ fn tolerance_of(card: &[u8]) -> f64
     numbers::number_of(numbers::word_at(card, 1))
 }
 
-// Room for the 4^n expectations of up to three qubits; the `ensures` gives the length, which lending a part needs.
-fn expectations_room() -> [f64; 64]
-    ensures { 64 ≡ length result }
-{
-    [0.0; 64]
-}
-
 // Inverts the expectations; the density matrix goes to the front of the work slice.
-fn invert_density(card: &[u8], n: usize, work: &mut [f64]) -> Verdict
+fn invert_density(card: &[u8], n: usize, work: &mut [f64]) -> Result<(), Refusal>
     requires { (n ≤ 3) × ((2 + 4 ^ n) * 8 ≤ length card.now) × (8192 ≤ length work.old) }
     ensures { (result ≡ inverted_of n (number_at card.now 1) (numbers_at card.now 2 (4 ^ n))) × (work.new ≡ over (density_numbers card.now n) work.old) }
 {
     let count = four_to(n);
-    let mut es = expectations_room();
+    let mut es = [0.0; 64];
     numbers::load(card, 2, count, &mut es);
     pauli::linear_inversion(n, tolerance_of(card), &es[..count], work)
 }
 
 // Kind 1.
-pub fn density_sheet(card: &[u8], n: usize, res: &mut [u64], work: &mut [f64]) -> Answer
+pub fn density_sheet(
+    card: &[u8],
+    n: usize,
+    res: &mut [u64],
+    work: &mut [f64],
+) -> Result<Answer, Refusal>
     requires { (n ≤ 3) × ((2 + 4 ^ n) * 8 ≤ length card.now) × (4096 ≤ length res.old) × (8192 ≤ length work.old) }
     ensures { Gives (density_sheet card.now n) res.old res.new result × (work.new ≡ over (density_numbers card.now n) work.old) }
 {
-    let found = invert_density(card, n, work);
-    match found {
-        Verdict::Refused(r) => Answer::Refused(r),
-        Verdict::Good => {
-            let d = sizes::two_to(n);
-            numbers::emit(work, 2 * (d * d), res);
-            Answer::Density {
-                dimension: d as u64,
-            }
-        }
-    }
-}
-
-// Room for the parts of an estimate.
-fn estimate_room() -> [f64; 512]
-    ensures { 512 ≡ length result }
-{
-    [0.0; 512]
+    invert_density(card, n, work)?;
+    let d = sizes::two_to(n);
+    numbers::emit(work, 2 * (d * d), res);
+    Ok(Answer::Density {
+        dimension: d as u64,
+    })
 }
 
 // Projects the estimate; the density matrix goes to the front of the work slice.
-fn project(card: &[u8], d: usize, work: &mut [f64]) -> Verdict
+fn project(card: &[u8], d: usize, work: &mut [f64]) -> Result<(), Refusal>
     requires { (1 ≤ d) × (d ≤ 16) × ((3 + 2 * (d * d)) * 8 ≤ length card.now) × (8192 ≤ length work.old) }
     ensures { (result ≡ projected_verdict d (number_at card.now 1) (word_at card.now 2) (estimate_of card.now d)) × (work.new ≡ over (projection_numbers card.now d) work.old) }
 {
     let count = 2 * square(d);
-    let mut estimate = estimate_room();
+    let mut estimate = [0.0; 512];
     numbers::load(card, 3, count, &mut estimate);
     let most = numbers::word_at(card, 2);
     density::project_density(&estimate[..count], d, tolerance_of(card), most, work)
 }
 
 // Kind 2.
-pub fn projected_sheet(card: &[u8], d: usize, res: &mut [u64], work: &mut [f64]) -> Answer
+pub fn projected_sheet(
+    card: &[u8],
+    d: usize,
+    res: &mut [u64],
+    work: &mut [f64],
+) -> Result<Answer, Refusal>
     requires { (1 ≤ d) × (d ≤ 16) × ((3 + 2 * (d * d)) * 8 ≤ length card.now) × (4096 ≤ length res.old) × (8192 ≤ length work.old) }
     ensures { Gives (projected_sheet card.now d) res.old res.new result × (work.new ≡ over (projection_numbers card.now d) work.old) }
 {
-    let found = project(card, d, work);
-    match found {
-        Verdict::Refused(r) => Answer::Refused(r),
-        Verdict::Good => {
-            numbers::emit(work, 2 * square(d), res);
-            Answer::Projected {
-                dimension: d as u64,
-            }
-        }
-    }
-}
-
-// Room for the inputs and outputs of up to two qubits.
-fn vectors_room() -> [f64; 512]
-    ensures { 512 ≡ length result }
-{
-    [0.0; 512]
+    project(card, d, work)?;
+    numbers::emit(work, 2 * square(d), res);
+    Ok(Answer::Projected {
+        dimension: d as u64,
+    })
 }
 
 // Inverts the process; the transfer matrix goes to the front of the work slice.
-fn invert_process(card: &[u8], p: usize, work: &mut [f64]) -> Verdict
+fn invert_process(card: &[u8], p: usize, work: &mut [f64]) -> Result<(), Refusal>
     requires { (1 ≤ p) × (p ≤ 16) × ((2 + 2 * (p * p)) * 8 ≤ length card.now) × (8192 ≤ length work.old) }
     ensures { (result ≡ process_of (number_at card.now 1) (vectors_of card.now p) p) × (work.new ≡ over (transfer_numbers card.now p) work.old) }
 {
     let count = 2 * square(p);
-    let mut vectors = vectors_room();
+    let mut vectors = [0.0; 512];
     numbers::load(card, 2, count, &mut vectors);
     transfer::process_linear_inversion(&vectors[..count], tolerance_of(card), p, work)
 }
 
 // Kind 3.
-pub fn process_sheet(card: &[u8], n: usize, res: &mut [u64], work: &mut [f64]) -> Answer
+pub fn process_sheet(
+    card: &[u8],
+    n: usize,
+    res: &mut [u64],
+    work: &mut [f64],
+) -> Result<Answer, Refusal>
     requires { (n ≤ 2) × ((2 + 2 * (4 ^ n * 4 ^ n)) * 8 ≤ length card.now) × (4096 ≤ length res.old) × (8192 ≤ length work.old) }
     ensures { Gives (process_sheet card.now n) res.old res.new result × (work.new ≡ over (transfer_numbers card.now (4 ^ n)) work.old) }
 {
     let p = four_to(n);
-    let found = invert_process(card, p, work);
-    match found {
-        Verdict::Refused(r) => Answer::Refused(r),
-        Verdict::Good => {
-            numbers::emit(work, square(p), res);
-            Answer::Process { size: p as u64 }
-        }
-    }
-}
-
-// Room for the transfer values of up to two qubits.
-fn transfer_room() -> [f64; 256]
-    ensures { 256 ≡ length result }
-{
-    [0.0; 256]
+    invert_process(card, p, work)?;
+    numbers::emit(work, square(p), res);
+    Ok(Answer::Process { size: p as u64 })
 }
 
 // The three tests of a transfer matrix, of p by p values. They write no number, so that any result stays as it is.
-fn test_transfer(n: usize, p: usize, transfer: &[f64], tolerance: f64, rotations: u64) -> Answer
+fn test_transfer(
+    n: usize,
+    p: usize,
+    transfer: &[f64],
+    tolerance: f64,
+    rotations: u64,
+) -> Result<Answer, Refusal>
     requires { (1 ≤ n) × (n ≤ 2) × (p ≡ 4 ^ n) × (length transfer.now ≡ p * p) }
     ensures { (l : List ℕ) → Gives (physical_of n tolerance rotations transfer.now) l l result }
 {
-    let found = positivity::is_completely_positive(n, transfer, tolerance, rotations);
-    match found {
-        Positivity::Refused(r) => Answer::Refused(r),
-        Positivity::Known(completely_positive) => Answer::Physical {
-            trace_preserving: physical::is_trace_preserving(transfer, p, tolerance),
-            unital: physical::is_unital(transfer, p, tolerance),
-            completely_positive,
-        },
-    }
+    let completely_positive = positivity::is_completely_positive(
+        n, transfer, tolerance, rotations,
+    )?;
+    Ok(Answer::Physical {
+        trace_preserving: physical::is_trace_preserving(transfer, p, tolerance),
+        unital: physical::is_unital(transfer, p, tolerance),
+        completely_positive,
+    })
 }
 
 // Kind 4.
-pub fn physical_sheet(card: &[u8], n: usize) -> Answer
+pub fn physical_sheet(card: &[u8], n: usize) -> Result<Answer, Refusal>
     requires { (1 ≤ n) × (n ≤ 2) × ((3 + 4 ^ n * 4 ^ n) * 8 ≤ length card.now) }
     ensures { (l : List ℕ) → Gives (physical_sheet card.now n) l l result }
 {
     let p = four_to(n);
     let count = square(p);
-    let mut transfer = transfer_room();
+    let mut transfer = [0.0; 256];
     numbers::load(card, 3, count, &mut transfer);
     let rotations = numbers::word_at(card, 2);
     test_transfer(n, p, &transfer[..count], tolerance_of(card), rotations)
 }
 
 // Checks the model and transforms it; the new model's numbers go to the front of the work slice.
-fn transform(card: &[u8], h: Header, work: &mut [f64]) -> Verdict
+fn transform(card: &[u8], h: Header, work: &mut [f64]) -> Result<(), Refusal>
     requires { Shaped card.now h × (h.kind ≡ 6) × (8192 ≤ length work.old) }
     ensures { (result ≡ gauge_verdict card.now h) × (work.new ≡ over (gauge_numbers card.now h) work.old) }
 {
-    let found = model::check_model(card, h);
-    match found {
-        Verdict::Refused(r) => Verdict::Refused(r),
-        Verdict::Good => gauge::gauge_transform(card, h, work),
-    }
+    model::check_model(card, h)?;
+    gauge::gauge_transform(card, h, work)
 }
 
 // Kind 6.
-pub fn gauge_sheet(card: &[u8], h: Header, res: &mut [u64], work: &mut [f64]) -> Answer
+pub fn gauge_sheet(
+    card: &[u8],
+    h: Header,
+    res: &mut [u64],
+    work: &mut [f64],
+) -> Result<Answer, Refusal>
     requires { Shaped card.now h × (h.kind ≡ 6) × (4096 ≤ length res.old) × (8192 ≤ length work.old) }
     ensures { Gives (gauge_sheet card.now h) res.old res.new result × (work.new ≡ over (gauge_numbers card.now h) work.old) }
 {
-    let found = transform(card, h, work);
-    match found {
-        Verdict::Refused(r) => Answer::Refused(r),
-        Verdict::Good => {
-            let count = model_words::model_numbers(h);
-            model_words::put_model(card, h, &work[..count], res);
-            Answer::Model {
-                words: card_places::model_words(h) as u64,
-            }
-        }
-    }
+    transform(card, h, work)?;
+    let count = model_words::model_numbers(h);
+    model_words::put_model(card, h, &work[..count], res);
+    Ok(Answer::Model {
+        words: card_places::model_words(h) as u64,
+    })
 }

@@ -1,17 +1,17 @@
 -- What the significand and the exponent of a finite number other than zero are: M · 2 ^ (e - 52) is the number, exactly. Assumes nothing.
-use mathlib.Core.Path.{◌≡◌, sym, ap, ◌∙◌}
+use mathlib.Core.Path.{◌≡◌, refl, sym, ap, ◌∙◌}
 use mathlib.Core.Bool.{true, false}
 use Prim.Native.Nat.{ℕ, zero, suc, ◌+◌, ◌-◌, ◌*◌, ◌/◌, ◌^◌, ◌≤◌, ◌<◌}
 use native.Mathlib.Nat.{le_trans, le_of_eq, lt_of_lt_of_le, lt_of_le_of_lt, mul_comm, mul_assoc, mul-div_cancel, mul-le-mul_right, mul-lt-mul_of_pos_right, le_of_mul-le-mul_right, div-lt_iff_lt-mul, eq_of_mul-eq-mul_right}
 use native.Mathlib.Omega.{arith}
 use lib.Dec.{T}
 use lib.Pow.{pow-add, pow_pos, shl_lt}
-use lib.Ieee.{Float, inf, binary64, fits, size, lt, eq}
+use lib.Ieee.{Float, nan, inf, fin, binary64, fits, size, lt}
 use lib.Ieee.Digits.{size-lt, size-le, size_reaches}
 use Rattle.numbers.specs.Number.{finite}
-use Rattle.numbers.proofs.Leaves.{nought}
+use Rattle.numbers.proofs.Leaves.{clash, nought}
 use Rattle.rounding.specs.Units.{units_of}
-use Rattle.rounding.proofs.Units.{Counted, counted, finite-above, above_zero}
+use Rattle.rounding.proofs.Units.{Counted, counted, above_zero}
 use Rattle.significand.specs.Significand.{significand_of, exponent_of}
 
 -- a number above zero has a digit
@@ -78,6 +78,17 @@ exact x f h p = record {
     whole : u * 2 ^ 53 / 2 ^ s * 2 ^ s ≡ u * 2 ^ 53
     whole = ap (λ (k : ℕ). k / 2 ^ s * 2 ^ s) multiple ∙ ap (λ (k : ℕ). k * 2 ^ s) (mul-div_cancel (c.digits * 2 ^ (c.zeros + 53 - s)) (pow_pos s)) ∙ sym multiple
 
--- so of what is above zero and no infinity
-pub exact_above : (x : Float) → T (fits binary64 x) → lt nought x ≡ true → eq x (inf false) ≡ false → Exact x
-exact_above x f l g = let h = finite-above x l g in exact x f h (above_zero x f h l).1
+-- what has units is finite ..
+pub finite-units : (x : Float) → 0 < units_of x → finite x ≡ true
+unfolding finite units_of
+finite-units nan p = absurd (omega arith)
+finite-units (inf s) p = absurd (omega arith)
+finite-units (fin s m e) p = refl
+
+-- .. and what is above zero and has none is the infinity
+pub infinite : (x : Float) → T (fits binary64 x) → lt nought x ≡ true → units_of x ≡ 0 → x ≡ inf false
+unfolding lt
+infinite nan f l u = clash l
+infinite (inf true) f l u = clash l
+infinite (inf false) f l u = refl
+infinite (fin s m e) f l u = absurd (omega (arith, (above_zero (fin s m e) f (unfold finite in refl) l).1))

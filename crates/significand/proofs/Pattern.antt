@@ -16,11 +16,7 @@ use Rattle.rounding.specs.Units.{units_of}
 use Rattle.rounding.proofs.Units.{counted, pow-less}
 use Rattle.significand.specs.Significand.{significand_of, exponent_of}
 
--- what is not finite has no units, and no parts
-pub none : (x : Float) → units_of x ≡ 0 → (0 ≡ significand_of x) × (0 ≡ exponent_of x)
-unfolding significand_of exponent_of size
-none x h = (ap (λ (n : ℕ). n * 2 ^ 53 / 2 ^ size n) (sym h), ap (λ (n : ℕ). size n - 1) (sym h))
-
+-- what is not finite has no units
 pub no-units : (x : Float) → finite x ≡ false → units_of x ≡ 0
 unfolding finite units_of
 no-units nan h = refl
@@ -127,8 +123,16 @@ module _ (x : Float) (f : T (fits binary64 x)) (h : finite x ≡ true) where
   is-small : w / 2 ^ 52 ≡ 0 → w ≡ n
   is-small e = unsigned x f h ∙ small n l (ap (λ (k : ℕ). k / 2 ^ 52) (sym (unsigned x f h)) ∙ e)
 
-  pub of_zero : w ≡ 0 → (0 ≡ significand_of x) × (0 ≡ exponent_of x)
-  of_zero e = none x (sym (is-small (ap (λ (k : ℕ). k / 2 ^ 52) e)) ∙ e)
+  pub of_zero : w ≡ 0 → n ≡ 0
+  of_zero e = sym (is-small (ap (λ (k : ℕ). k / 2 ^ 52) e)) ∙ e
+
+  -- a pattern other than zero has units
+  pub some : (w ≡ 0 → ⊥) → 0 < n
+  unfolding size
+  some z = pos n (λ e. z (unsigned x f h ∙ ap pattern e))
+    where
+      pos : (n : ℕ) → (n ≡ 0 → ⊥) → 0 < n
+      pos n g = omega arith
 
   pub is-shifted : (w ≡ 0 → ⊥) → w / 2 ^ 52 ≡ 0 → Shifted w
   is-shifted z e = shift-up w (omega arith) (omega arith)

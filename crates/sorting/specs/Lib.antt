@@ -1,3 +1,2 @@
 pub mod Sort
 pub mod Sorted
-pub mod Steps

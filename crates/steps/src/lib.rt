@@ -1,27 +1,19 @@
 // The steps of a fit, on a small state that is passed on by value.
 #![tactic(auto)]
 
-ghost use Rattle.std.specs.Prelude.{◌≡◌, ◌≤◌, ◌<◌, length, take};
-ghost use Rattle.objective.specs.Job.{job_by, Lent};
-ghost use Rattle.steps.specs.declared.Status.TheVariants.{Going};
-ghost use Rattle.steps.specs.declared.Slope.TheVariants.{Norm};
-ghost use Rattle.steps.specs.Running.{point_of, Sloped, Underway, Follows, Ran, going_on, rest_of, moved_of};
+ghost use Rattle.std.specs.Prelude.{◌≡◌, ◌<◌, Ok, None, length};
+ghost use Rattle.std.specs.Float.Ieee.{le};
+ghost use Rattle.numbers.specs.Number.{◌-ᶠ◌};
+ghost use Rattle.objective.specs.Tasks.{job_in};
+ghost use Rattle.steps.specs.Running.{point_of, Sloped, Underway, Led, Ended, rest_of, accepted_of};
 
-use card_layout::Header;
-use descent::{GstOptimizerConfig, GstTermination, Search};
+use descent::GstTermination;
 use evaluation::gradient;
-use objective::norm;
-use refusal::{Refusal, Verdict};
+use objective::{Task, Work, norm};
+use refusal::Refusal;
 use search::search;
 
-#[derive(Clone, Copy)]
-pub enum Status {
-    Going,
-    Stopped(GstTermination),
-    Turned(Refusal),
-}
-
-// A running fit. Its first numbers are the coordinates'; `norm` is that of the last gradient.
+// A running fit. Its first numbers are the coordinates'; `norm` is that of the last gradient; `stop` says why it has stopped, if it has.
 #[derive(Clone, Copy)]
 pub struct Running {
     pub coordinates: [f64; 64],
@@ -29,210 +21,114 @@ pub struct Running {
     pub norm: f64,
     pub steps: u64,
     pub evaluations: u64,
-    pub status: Status,
+    pub stop: Option<GstTermination>,
 }
 
-// What a point's gradient gives: its norm, or why it is unusable.
-#[derive(Clone, Copy)]
-pub enum Slope {
-    Norm(f64),
-    Unusable(Refusal),
-}
-
-// Room for coordinates; the `ensures` gives the length, which lending a part needs.
-pub fn room() -> [f64; 64]
-    ensures { 64 ≡ length result }
+// The same point with n evaluations more and its gradient's norm, where the fit stops.
+fn stopped(r: &Running, n: u64, z: f64, k: GstTermination) -> Running
+    requires { (r.now.evaluations < 4294967296) × (n < 1024) }
+    ensures { result ≡ rest_of r.now n z k }
 {
-    [0.0; 64]
-}
-
-// The same point with n evaluations more, its gradient's norm, and a status.
-fn with_status(r: Running, n: u64, z: f64, status: Status) -> Running
-    requires { (r.evaluations < 4294967296) × (n < 1024) }
-    ensures { result ≡ rest_of r n z status }
-{
-    let coordinates = r.coordinates;
-    let objective = r.objective;
-    let steps = r.steps;
-    let evaluations = r.evaluations + n;
     Running {
-        coordinates,
-        objective,
+        coordinates: r.coordinates,
+        objective: r.objective,
         norm: z,
-        steps,
-        evaluations,
-        status,
+        steps: r.steps,
+        evaluations: r.evaluations + n,
+        stop: Some(k),
     }
 }
 
 // An accepted step to t, of objective v.
-fn moved(c: GstOptimizerConfig, r: Running, t: [f64; 64], v: f64, n: u64) -> Running
-    requires { (r.evaluations < 4294967296) × (r.steps < 65536) × (n < 1024) }
-    ensures { result ≡ moved_of c r t v n }
+fn moved(tolerance: f64, r: &Running, t: [f64; 64], v: f64, n: u64) -> Running
+    requires { (r.now.evaluations < 4294967296) × (r.now.steps < 65536) × (n < 1024) }
+    ensures { result ≡ accepted_of r.now t v n (le (r.now.objective -ᶠ v) tolerance) }
 {
-    let steps = r.steps + 1;
-    let evaluations = r.evaluations + n;
-    let norm = r.norm;
-    if r.objective - v <= c.objective_tolerance {
-        return Running {
-            coordinates: t,
-            objective: v,
-            norm,
-            steps,
-            evaluations,
-            status: Status::Stopped(GstTermination::ObjectiveTolerance),
-        };
-    }
+    let small = r.objective - v <= tolerance;
+    let stop = if small {
+        Some(GstTermination::ObjectiveTolerance)
+    } else {
+        None
+    };
     Running {
         coordinates: t,
         objective: v,
-        norm,
-        steps,
-        evaluations,
-        status: Status::Going,
+        norm: r.norm,
+        steps: r.steps + 1,
+        evaluations: r.evaluations + n,
+        stop,
     }
 }
 
-// The gradient at r, at the front of g, and its norm.
+// The gradient at r into g, and its norm.
 pub fn slope_at(
-    card: &[u8],
-    h: Header,
-    places: &[usize],
-    c: GstOptimizerConfig,
-    anchor: &[f64],
-    r: Running,
+    task: &Task<'_>,
+    r: &Running,
     g: &mut [f64],
-    model: &mut [f64],
-    columns: &mut [f64],
-) -> Slope
-    requires { Lent card.now h places.now anchor.now model.old columns.old × Underway r × (length g.old ≡ 64) }
-    ensures { Sloped (job_by card.now h places.now c) (point_of (length places.now) r) (take (length places.now) g.new) result × (length g.new ≡ length g.old) × (length model.new ≡ length model.old) × (length columns.new ≡ length columns.old) }
+    work: &mut Work,
+) -> Result<f64, Refusal>
+    requires { length g.old ≡ length task.now.places.now }
+    ensures { Sloped (job_in task.now) (point_of (length task.now.places.now) r.now) g.new result }
 {
-    let p = places.len();
-    let x = r.coordinates;
-    let mut t = room();
-    let found = gradient(
-        card,
-        h,
-        places,
-        c,
-        anchor,
-        &x[..p],
-        r.objective,
-        &mut g[..p],
-        &mut t[..p],
-        model,
-        columns,
-    );
-    match found {
-        Verdict::Good => Slope::Norm(norm(&g[..p])),
-        Verdict::Refused(x) => Slope::Unusable(x),
-    }
+    let p = task.places.len();
+    gradient(task, &r.coordinates[..p], r.objective, g, work)?;
+    Ok(norm(g))
 }
 
 // The step from r along its gradient g, of norm z.
 fn descend(
-    card: &[u8],
-    h: Header,
-    places: &[usize],
-    c: GstOptimizerConfig,
-    anchor: &[f64],
-    r: Running,
-    g: [f64; 64],
+    task: &Task<'_>,
+    r: &Running,
+    g: &[f64],
     z: f64,
-    model: &mut [f64],
-    columns: &mut [f64],
-) -> Running
-    requires { Lent card.now h places.now anchor.now model.old columns.old × (c.max_backtracks ≤ 255) × Underway r × (length g ≡ 64)
-        × Sloped (job_by card.now h places.now c) (point_of (length places.now) r) (take (length places.now) g) (Norm z) }
-    ensures { Follows (job_by card.now h places.now c) (length places.now) r result }
+    work: &mut Work,
+) -> Result<Running, Refusal>
+    requires { Underway r.now × (length g.now ≡ length task.now.places.now) × Sloped (job_in task.now) (point_of (length task.now.places.now) r.now) g.now (Ok z) }
+    ensures { Led (job_in task.now) (length task.now.places.now) r.now result }
 {
-    let p = places.len();
+    let c = task.config;
+    let p = task.places.len();
     let n = 2 * (p as u64);
     if z <= c.gradient_tolerance {
-        return with_status(r, n, z, Status::Stopped(GstTermination::GradientTolerance));
+        return Ok(stopped(r, n, z, GstTermination::GradientTolerance));
     }
-    let x = r.coordinates;
-    let o = r.objective;
-    let mut t = room();
-    let found = search(
-        card,
-        h,
-        places,
-        c,
-        anchor,
-        &x[..p],
-        &g[..p],
-        o,
-        &mut t[..p],
-        model,
-        columns,
-    );
-    let stalled = Status::Stopped(GstTermination::LineSearchStalled);
+    let mut t = [0.0; 64];
+    let found = search(task, &r.coordinates[..p], g, r.objective, &mut t[..p], work)?;
     match found {
-        Search::Searching => with_status(r, n + c.max_backtracks, z, stalled),
-        Search::Found(k, v) => moved(c, r, t, v, n + (k + 1)),
-        Search::Lost(x) => with_status(r, 0, z, Status::Turned(x)),
+        None => {
+            let stalled = GstTermination::LineSearchStalled;
+            Ok(stopped(r, n + c.max_backtracks, z, stalled))
+        }
+        Some(a) => {
+            let tolerance = c.objective_tolerance;
+            Ok(moved(tolerance, r, t, a.objective, n + (a.trial + 1)))
+        }
     }
 }
 
 // One gradient and its search.
-fn step(
-    card: &[u8],
-    h: Header,
-    places: &[usize],
-    c: GstOptimizerConfig,
-    anchor: &[f64],
-    r: Running,
-    model: &mut [f64],
-    columns: &mut [f64],
-) -> Running
-    requires { Lent card.now h places.now anchor.now model.old columns.old × (c.max_backtracks ≤ 255) × Underway r }
-    ensures { Follows (job_by card.now h places.now c) (length places.now) r result }
+fn step(task: &Task<'_>, r: &Running, work: &mut Work) -> Result<Running, Refusal>
+    requires { Underway r.now }
+    ensures { Led (job_in task.now) (length task.now.places.now) r.now result }
 {
-    let mut g = room();
-    let found = slope_at(card, h, places, c, anchor, r, &mut g, model, columns);
-    match found {
-        Slope::Norm(z) => descend(card, h, places, c, anchor, r, g, z, model, columns),
-        Slope::Unusable(x) => with_status(r, 0, 0.0, Status::Turned(x)),
-    }
-}
-
-fn is_going(s: Status) -> bool
-    ensures { result ≡ going_on s }
-{
-    match s {
-        Status::Going => true,
-        Status::Stopped(_) => false,
-        Status::Turned(_) => false,
-    }
+    let p = task.places.len();
+    let mut room = [0.0; 64];
+    let g = &mut room[..p];
+    let z = slope_at(task, r, g, work)?;
+    descend(task, r, g, z, work)
 }
 
 // Steps until the fit stops, or the limit is reached.
-pub fn run(
-    card: &[u8],
-    h: Header,
-    places: &[usize],
-    c: GstOptimizerConfig,
-    anchor: &[f64],
-    start: Running,
-    model: &mut [f64],
-    columns: &mut [f64],
-) -> Running
-    requires { Lent card.now h places.now anchor.now model.old columns.old × (c.max_backtracks ≤ 255) × (c.max_iterations ≤ 65535) × (start.evaluations ≡ 1) × (start.steps ≡ 0) × (length start.coordinates ≡ 64) × (start.status ≡ Going) }
-    ensures { Ran (job_by card.now h places.now c) (length places.now) start result × (length model.new ≡ length model.old) × (length columns.new ≡ length columns.old) }
+pub fn run(task: &Task<'_>, start: Running, work: &mut Work) -> Result<Running, Refusal>
+    requires { (start.evaluations ≡ 1) × (start.steps ≡ 0) × (start.stop ≡ None) }
+    ensures { Ended (job_in task.now) (length task.now.places.now) start result }
 {
-    let n = c.max_iterations;
     let mut r = start;
-    let mut i = 0;
-    while i < n {
-        let s = r.status;
-        if !is_going(s) {
-            return r;
+    for i in 0..task.config.max_iterations {
+        if r.stop.is_some() {
+            return Ok(r);
         }
-        let q = step(card, h, places, c, anchor, r, model, columns);
-        r = q;
-        i += 1;
+        r = step(task, &r, work)?;
     }
-    r
+    Ok(r)
 }

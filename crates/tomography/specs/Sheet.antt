@@ -1,14 +1,11 @@
 -- The sheet of a card, by its kind (document 01's table), and what a call of the entry point promises.
-use Rattle.std.specs.Prelude.{ℕ, ◌≡◌, Bool, true, cond, List, eqb, Float}
+use Rattle.std.specs.Prelude.{Err, Ok, ℕ, ◌≡◌, Bool, true, cond, List, eqb, Float}
 use Rattle.card_layout.specs.declared.Header.{Header}
-use Rattle.card.specs.declared.Reading.{Reading}
-use Rattle.card.specs.declared.Reading.TheVariants as read
-use Rattle.card.specs.Reading.{read_of}
+use Rattle.card.specs.Reading.{Reading, read_of}
 use Rattle.descent.specs.Claim.{distinct}
 use Rattle.parameters.specs.Parameters.{places_of}
-use Rattle.outcome.specs.declared.Answer.{Answer}
 use Rattle.outcome.specs.declared.Answer.TheVariants.{Fit}
-use Rattle.outcome.specs.Outcome.{Outcome, refused, Call}
+use Rattle.outcome.specs.Outcome.{Answered, Outcome, refused, Call}
 use Rattle.gst_sheets.specs.Sheets.{diagnostics_sheet}
 use Rattle.fit_sheets.specs.Sheets.{fit_sheet}
 use Rattle.fit_sheets.specs.Buyer.{Buyer}
@@ -31,15 +28,15 @@ kind_sheet s h =
 
 -- the reader's refusals come first
 abbrev pub read_sheet : List ℕ → Reading → Outcome
-read_sheet s (read.Refused r) = refused r
-read_sheet s (read.Accepted h) = kind_sheet s h
+read_sheet s (Err r) = refused r
+read_sheet s (Ok h) = kind_sheet s h
 
 unfoldable pub sheet_of : List ℕ → Outcome
 sheet_of s = read_sheet s (read_of s)
 
 -- What a call returns and leaves behind, whatever it is lent.
-pub record Sheet (card result₀ result₁ : List ℕ) (work₀ work₁ : List Float) (r : Answer) : Type 0 where
+pub record Sheet (card result₀ result₁ : List ℕ) (work₀ work₁ : List Float) (r : Answered) : Type 0 where
   pub call : Call (sheet_of card) result₀ result₁ work₀ work₁ r
   -- the buyer's statement, of every fit whose coordinates name different entries
-  pub fit : (h : Header) → read_of card ≡ read.Accepted h → h.kind ≡ 5 → distinct (places_of card h) ≡ true
-      → (R S E : ℕ) (v : Bool) (M : ℕ) → r ≡ Fit R S E v M → Buyer card h R S E v result₁
+  pub fit : (h : Header) → read_of card ≡ Ok h → h.kind ≡ 5 → distinct (places_of card h) ≡ true
+      → (R S E : ℕ) (v : Bool) (M : ℕ) → r ≡ Ok (Fit R S E v M) → Buyer card h R S E v result₁

@@ -1,4 +1,6 @@
 -- The tests of a process, taken apart in their order. Assumes nothing.
+use Rattle.std.proofs.Common.{Err, Ok}
+use Rattle.refusal.specs.Verdicts.{good, Verdict, after, finite_or}
 use Prim.Native.Nat.{ℕ, ◌*◌}
 use mathlib.Core.Path.{◌≡◌, refl, sym, ap, ◌∙◌}
 use mathlib.Core.Bool.{Bool, true, false, cond, not}
@@ -11,9 +13,6 @@ use Rattle.lists.proofs.Filling.{length-build}
 use Rattle.numbers.specs.Number.{positive}
 use Rattle.refusal.specs.declared.Refusal.{Refusal}
 use Rattle.refusal.specs.declared.Refusal.TheVariants.{NonFinite, InvalidTolerance, SingularProcessDesign}
-use Rattle.refusal.specs.declared.Verdict.{Verdict}
-use Rattle.refusal.specs.declared.Verdict.TheVariants.{Good, Refused}
-use Rattle.refusal.specs.Verdicts.{after, finite_or}
 use Rattle.refusal.proofs.Verdicts.{never-good}
 use Rattle.matrix.specs.Product.{mat_mul_of}
 use Rattle.inversion.specs.Inversion.{invertible, inverse_of}
@@ -26,7 +25,7 @@ module _ (t : Float) (v : List Float) (p : ℕ) where
   length-transfer = length-build (p * p) _
 
   module _ (h : invertible p t (inputs_of v p) ≡ false) where
-    pub singular : Refused SingularProcessDesign ≡ solved_of t v p
+    pub singular : Err SingularProcessDesign ≡ solved_of t v p
     unfolding solved_of
     singular = yes _ (ap not h)
 
@@ -58,16 +57,16 @@ module _ {A : Type 0} (t : Float) (v : List Float) (p : ℕ) (refused : Refusal 
   by-vectors w h e = no _ (ap not h) (ap (λ (x : Verdict). after x refused next) e)
 
 -- what a call computes where it is good
-pub computed-process : (t : Float) (v : List Float) (p : ℕ) → process_of t v p ≡ Good → process_numbers t v p ≡ transfer_of t v p
+pub computed-process : (t : Float) (v : List Float) (p : ℕ) → process_of t v p ≡ good → process_numbers t v p ≡ transfer_of t v p
 unfolding screened solved_of solved_numbers
 computed-process t v p = go (not (positive t)) (vetted_of t v p) (not (invertible p t (inputs_of v p)))
   where
-    never : {r : Refusal} → Refused r ≡ Good → ⊥
+    never : {r : Refusal} → Err r ≡ good → ⊥
     never e = never-good (sym e)
 
-    go : (a : Bool) (w : Verdict) (b : Bool) → cond a (Refused InvalidTolerance) (after w Refused (cond b (Refused SingularProcessDesign) (finite_or NonFinite (transfer_of t v p)))) ≡ Good
+    go : (a : Bool) (w : Verdict) (b : Bool) → cond a (Err InvalidTolerance) (after w Err (cond b (Err SingularProcessDesign) (finite_or NonFinite (transfer_of t v p)))) ≡ good
         → cond a [] (after w (λ _. []) (cond b [] (transfer_of t v p))) ≡ transfer_of t v p
     go true w b e = absurd (never e)
-    go false (Refused r) b e = absurd (never e)
-    go false Good true e = absurd (never e)
-    go false Good false e = refl
+    go false (Err r) b e = absurd (never e)
+    go false (Ok _) true e = absurd (never e)
+    go false (Ok _) false e = refl

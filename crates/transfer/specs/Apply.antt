@@ -1,7 +1,6 @@
 -- A transfer matrix R applied to expectations (Nielsen and Chuang, section 8.4.2): r' = R · r, with the Rust's tests in its order.
 use Rattle.std.specs.Prelude.{ℕ, ◌*◌, List, [], Float}
-use Rattle.refusal.specs.declared.Verdict.{Verdict}
-use Rattle.refusal.specs.Verdicts.{first_of, after, checked_numbers}
+use Rattle.refusal.specs.Verdicts.{Verdict, first_of, after, checked_numbers}
 use Rattle.matrix.specs.Product.{mat_vec_of}
 
 -- `PauliTransferMatrix::try_new` of p by p values, then the test of the input

@@ -1,12 +1,10 @@
 -- The transfer matrix of a process (Nielsen and Chuang, section 8.4.2): outputs = R · inputs, the vectors being columns, so R = outputs · inputs⁻¹;
 -- with the Rust's tests in its order.
-use Rattle.std.specs.Prelude.{ℕ, ◌*◌, cond, not, List, [], drop, Float}
+use Rattle.std.specs.Prelude.{Err, ℕ, ◌*◌, cond, not, List, [], drop, Float}
 use Rattle.numbers.specs.Number.{positive}
 use Rattle.refusal.specs.declared.Refusal.{Refusal}
 use Rattle.refusal.specs.declared.Refusal.TheVariants.{NonFinite, InvalidTolerance, SingularProcessDesign}
-use Rattle.refusal.specs.declared.Verdict.{Verdict}
-use Rattle.refusal.specs.declared.Verdict.TheVariants.{Refused}
-use Rattle.refusal.specs.Verdicts.{after, finite_or}
+use Rattle.refusal.specs.Verdicts.{Verdict, after, finite_or}
 use Rattle.matrix.specs.Product.{mat_mul_of, transposed_of}
 use Rattle.inversion.specs.Inversion.{invertible, inverse_of}
 use Rattle.transfer.specs.Vectors.{vetted_of}
@@ -25,7 +23,7 @@ transfer_of tolerance v p = mat_mul_of p (outputs_of v p) (inverse_of p toleranc
 -- the probes have to be complete, and `PauliTransferMatrix::try_new` refuses a number that is not finite
 unfoldable pub solved_of : Float → List Float → ℕ → Verdict
 solved_of tolerance v p =
-    cond (not (invertible p tolerance (inputs_of v p))) (Refused SingularProcessDesign)
+    cond (not (invertible p tolerance (inputs_of v p))) (Err SingularProcessDesign)
     (finite_or NonFinite (transfer_of tolerance v p))
 
 -- the numbers that are computed: none where the probes are not complete
@@ -37,7 +35,7 @@ unfoldable pub screened : {A : Type 0} → Float → List Float → ℕ → (Ref
 screened tolerance v p refused next = cond (not (positive tolerance)) (refused InvalidTolerance) (after (vetted_of tolerance v p) refused next)
 
 abbrev pub process_of : Float → List Float → ℕ → Verdict
-process_of tolerance v p = screened tolerance v p Refused (solved_of tolerance v p)
+process_of tolerance v p = screened tolerance v p Err (solved_of tolerance v p)
 
 abbrev pub process_numbers : Float → List Float → ℕ → List Float
 process_numbers tolerance v p = screened tolerance v p (λ _. []) (solved_numbers tolerance v p)

@@ -1,5 +1,5 @@
 // A rotation of classical Jacobi, in place: only rows and columns p and q are touched.
-#![tactic(auto)]
+#![tactic(auto, using(lists::proofs::Folding::fold_more), unfolding(crate::specs::Rotation::tangent, crate::specs::Rotation::turn_of, crate::specs::Rotation::turned_p, crate::specs::Rotation::turned_q, crate::specs::Steps::row_turned, crate::specs::Steps::mirrored_one, crate::specs::Steps::crossed, lists::specs::Fold::fold))]
 
 ghost use Rattle.std.specs.Prelude.{◌≡◌, ◌+◌, ◌*◌, ◌≤◌, ◌<◌, length};
 ghost use Rattle.entries.specs.Entries.{entries};
@@ -9,7 +9,7 @@ ghost use Rattle.turns.specs.Steps.{row_turned, mirrored_one, mirrored, crossed}
 use complex::Complex;
 use magnitudes::Pivot;
 
-#[derive(Clone, Copy)]
+#[derive(Clone, Copy, Debug, PartialEq)]
 pub struct Turn {
     pub p: usize,
     pub q: usize,
@@ -35,15 +35,13 @@ pub fn turn_of(a: &[f64], n: usize, g: Pivot) -> Turn
     requires { (length a.now ≡ 2 * (n * n)) × (g.p < n) × (g.q < n) }
     ensures { result ≡ spec.turn_of n (entries a.now) g }
 {
-    let best = g.best;
-    let p = g.p;
-    let q = g.q;
+    let Pivot { best, p, q } = g;
     let app = entries::read(a, n, p, p).re;
     let aqq = entries::read(a, n, q, q).re;
     let t = tangent((aqq - app) / (2.0 * best));
     let c = 1.0 / root::sqrt_from_one(1.0 + t * t);
     let s = t * c;
-    let phase = entries::read(a, n, p, q).divided(best);
+    let phase = entries::read(a, n, p, q) / best;
     Turn {
         p,
         q,
@@ -58,13 +56,13 @@ pub fn turn_of(a: &[f64], n: usize, g: Pivot) -> Turn
 fn turned_p(t: Turn, x: Complex, y: Complex) -> Complex
     ensures { result ≡ spec.turned_p t x y }
 {
-    x.times(t.phase).scaled(t.c).minus(y.scaled(t.s))
+    x * t.phase * t.c - y * t.s
 }
 
 fn turned_q(t: Turn, x: Complex, y: Complex) -> Complex
     ensures { result ≡ spec.turned_q t x y }
 {
-    x.times(t.phase).scaled(t.s).plus(y.scaled(t.c))
+    x * t.phase * t.s + y * t.c
 }
 
 // Columns p and q of row i.
@@ -90,29 +88,15 @@ pub fn turn_columns(a: &mut [f64], r: usize, n: usize, t: Turn)
     }
 }
 
-// Entry (c, k) from entry (k, c).
-fn mirror_one(a: &mut [f64], n: usize, c: usize, k: usize)
-    requires { (length a.old ≡ 2 * (n * n)) × (c < n) × (k < n) }
-    ensures { entries a.new ≡ mirrored_one n c k (entries a.old) }
-{
-    let z = entries::read(a, n, k, c);
-    entries::write(a, n, c, k, z.conjugate());
-}
-
 // Row c from column c.
 fn mirror(a: &mut [f64], n: usize, c: usize)
     requires { (length a.old ≡ 2 * (n * n)) × (c < n) }
     ensures { entries a.new ≡ mirrored n c (entries a.old) }
 {
     for k in 0..n {
-        mirror_one(a, n, c, k);
+        let z = entries::read(a, n, k, c);
+        entries::write(a, n, c, k, z.conjugate());
     }
-}
-
-fn real(x: f64) -> Complex
-    ensures { result ≡ spec.real x }
-{
-    Complex { re: x, im: 0.0 }
 }
 
 // The four entries where rows and columns p and q meet.
@@ -122,10 +106,10 @@ fn cross(a: &mut [f64], n: usize, t: Turn)
 {
     let p = t.p;
     let q = t.q;
-    entries::write(a, n, q, q, real(t.qq));
-    entries::write(a, n, q, p, real(0.0));
-    entries::write(a, n, p, q, real(0.0));
-    entries::write(a, n, p, p, real(t.pp));
+    entries::write(a, n, q, q, Complex::from(t.qq));
+    entries::write(a, n, q, p, Complex::from(0.0));
+    entries::write(a, n, p, q, Complex::from(0.0));
+    entries::write(a, n, p, p, Complex::from(t.pp));
 }
 
 // The rotation of the matrix.

@@ -1,5 +1,5 @@
 -- Document 01's worked cards, as rows of one list: a card's words, and the outcome of its sheet.
-use Rattle.std.specs.Prelude.{ℕ, ◌≡◌, refl, true, false, List, [], ◌∷◌}
+use Rattle.std.specs.Prelude.{Ok, ℕ, ◌≡◌, refl, true, false, List, [], ◌∷◌}
 use Rattle.std.specs.Float.{binary64}
 use Rattle.std.specs.Float.Ieee.{is_nan, of_bits, of_fields, odd, to_bits, add, sub, mul, div, neg, sum, round, units, lt, le, eq, span, climb, size, of_int}
 use Rattle.lists.specs.Build.{from, build, joined}
@@ -65,7 +65,7 @@ Right (r ∷ rs) = (sheet_of (card r.words 0) ≡ r.outcome) × Right rs
 
 -- |0><0|
 abbrev pub zero_state : Outcome
-zero_state = record { answer = Density 2; words = 0x3ff0000000000000 ∷ 0 ∷ 0 ∷ 0 ∷ 0 ∷ 0 ∷ 0 ∷ 0 ∷ [] }
+zero_state = record { answer = Ok (Density 2); words = 0x3ff0000000000000 ∷ 0 ∷ 0 ∷ 0 ∷ 0 ∷ 0 ∷ 0 ∷ 0 ∷ [] }
 
 abbrev pub rows : List Row
 rows =
@@ -76,24 +76,24 @@ rows =
     -- 1.5 + 2^-52 is too far from 1
     ∷ record { words = 0x1100000000000000 ∷ 0x3fe0000000000000 ∷ 0x3ff8000000000001 ∷ 0 ∷ 0 ∷ 0x3ff0000000000000 ∷ []; outcome = refused (InvalidNormalization (of_bits binary64 0x3ff8000000000001)) }
     -- expectations 1, 0, 0, 2^60: the trace is 0 by rounding
-    ∷ record { words = 0x1100000000000000 ∷ 0x3eb0000000000000 ∷ 0x3ff0000000000000 ∷ 0 ∷ 0 ∷ 0x43b0000000000000 ∷ []; outcome = record { answer = Density 2; words = 0x43a0000000000000 ∷ 0 ∷ 0 ∷ 0 ∷ 0 ∷ 0 ∷ 0xc3a0000000000000 ∷ 0 ∷ [] } }
+    ∷ record { words = 0x1100000000000000 ∷ 0x3eb0000000000000 ∷ 0x3ff0000000000000 ∷ 0 ∷ 0 ∷ 0x43b0000000000000 ∷ []; outcome = record { answer = Ok (Density 2); words = 0x43a0000000000000 ∷ 0 ∷ 0 ∷ 0 ∷ 0 ∷ 0 ∷ 0xc3a0000000000000 ∷ 0 ∷ [] } }
     -- kind 2, diag(1, 0.5, -0.5): one rotation tests that it is diagonal
-    ∷ record { words = 0x2003000000000000 ∷ 0x3eb0000000000000 ∷ 1 ∷ 0x3ff0000000000000 ∷ 0 ∷ 0 ∷ 0 ∷ 0 ∷ 0 ∷ 0 ∷ 0 ∷ 0x3fe0000000000000 ∷ 0 ∷ 0 ∷ 0 ∷ 0 ∷ 0 ∷ 0 ∷ 0 ∷ 0xbfe0000000000000 ∷ 0 ∷ []; outcome = record { answer = Projected 3; words = 0x3fe8000000000000 ∷ 0 ∷ 0 ∷ 0 ∷ 0 ∷ 0 ∷ 0 ∷ 0 ∷ 0x3fd0000000000000 ∷ 0 ∷ 0 ∷ 0 ∷ 0 ∷ 0 ∷ 0 ∷ 0 ∷ 0 ∷ 0 ∷ [] } }
+    ∷ record { words = 0x2003000000000000 ∷ 0x3eb0000000000000 ∷ 1 ∷ 0x3ff0000000000000 ∷ 0 ∷ 0 ∷ 0 ∷ 0 ∷ 0 ∷ 0 ∷ 0 ∷ 0x3fe0000000000000 ∷ 0 ∷ 0 ∷ 0 ∷ 0 ∷ 0 ∷ 0 ∷ 0 ∷ 0xbfe0000000000000 ∷ 0 ∷ []; outcome = record { answer = Ok (Projected 3); words = 0x3fe8000000000000 ∷ 0 ∷ 0 ∷ 0 ∷ 0 ∷ 0 ∷ 0 ∷ 0 ∷ 0x3fd0000000000000 ∷ 0 ∷ 0 ∷ 0 ∷ 0 ∷ 0 ∷ 0 ∷ 0 ∷ 0 ∷ 0 ∷ [] } }
     -- the 1 by 1 estimate 2^60: one is lost beside it
     ∷ record { words = 0x2001000000000000 ∷ 0x3eb0000000000000 ∷ 1 ∷ 0x43b0000000000000 ∷ 0 ∷ []; outcome = refused Operator }
     -- [[0, 1], [1, 0]]: what the last rotation gives is not tested
     ∷ record { words = 0x2002000000000000 ∷ 0x3eb0000000000000 ∷ 1 ∷ 0 ∷ 0 ∷ 0x3ff0000000000000 ∷ 0 ∷ 0x3ff0000000000000 ∷ 0 ∷ 0 ∷ 0 ∷ []; outcome = refused EigensolverDidNotConverge }
-    ∷ record { words = 0x2002000000000000 ∷ 0x3eb0000000000000 ∷ 2 ∷ 0 ∷ 0 ∷ 0x3ff0000000000000 ∷ 0 ∷ 0x3ff0000000000000 ∷ 0 ∷ 0 ∷ 0 ∷ []; outcome = record { answer = Projected 2; words = 0x3fdffffffffffffe ∷ 0 ∷ 0x3fdffffffffffffe ∷ 0 ∷ 0x3fdffffffffffffe ∷ 0 ∷ 0x3fdffffffffffffe ∷ 0 ∷ [] } }
+    ∷ record { words = 0x2002000000000000 ∷ 0x3eb0000000000000 ∷ 2 ∷ 0 ∷ 0 ∷ 0x3ff0000000000000 ∷ 0 ∷ 0x3ff0000000000000 ∷ 0 ∷ 0 ∷ 0 ∷ []; outcome = record { answer = Ok (Projected 2); words = 0x3fdffffffffffffe ∷ 0 ∷ 0x3fdffffffffffffe ∷ 0 ∷ 0x3fdffffffffffffe ∷ 0 ∷ 0x3fdffffffffffffe ∷ 0 ∷ [] } }
     -- kind 4, diag(1, 1, -1, 1) at tolerance 0.25 and 2 rotations: it keeps the trace and the identity, and isn't completely positive
-    ∷ record { words = 0x4100000000000000 ∷ 0x3fd0000000000000 ∷ 2 ∷ 0x3ff0000000000000 ∷ 0 ∷ 0 ∷ 0 ∷ 0 ∷ 0x3ff0000000000000 ∷ 0 ∷ 0 ∷ 0 ∷ 0 ∷ 0xbff0000000000000 ∷ 0 ∷ 0 ∷ 0 ∷ 0 ∷ 0x3ff0000000000000 ∷ []; outcome = record { answer = Physical true true false; words = [] } }
+    ∷ record { words = 0x4100000000000000 ∷ 0x3fd0000000000000 ∷ 2 ∷ 0x3ff0000000000000 ∷ 0 ∷ 0 ∷ 0 ∷ 0 ∷ 0x3ff0000000000000 ∷ 0 ∷ 0 ∷ 0 ∷ 0 ∷ 0xbff0000000000000 ∷ 0 ∷ 0 ∷ 0 ∷ 0 ∷ 0x3ff0000000000000 ∷ []; outcome = record { answer = Ok (Physical true true false); words = [] } }
     -- kind 6, state (1, 2) and one effect (1, 1): the transform diag(1, 2^-45) is singular
     ∷ record { words = 0x6002010000000000 ∷ 0x3ff0000000000000 ∷ 0x4000000000000000 ∷ 0x3ff0000000000000 ∷ 0x3ff0000000000000 ∷ 0x3ff0000000000000 ∷ 0 ∷ 0 ∷ 0x3d20000000000000 ∷ []; outcome = refused SingularGaugeTransform }
     -- diag(1, 2^-44) is not: state (1, 2^-43) and effect (1, 2^44)
-    ∷ record { words = 0x6002010000000000 ∷ 0x3ff0000000000000 ∷ 0x4000000000000000 ∷ 0x3ff0000000000000 ∷ 0x3ff0000000000000 ∷ 0x3ff0000000000000 ∷ 0 ∷ 0 ∷ 0x3d30000000000000 ∷ []; outcome = record { answer = Model 4; words = 0x3ff0000000000000 ∷ 0x3d40000000000000 ∷ 0x3ff0000000000000 ∷ 0x42b0000000000000 ∷ [] } }
+    ∷ record { words = 0x6002010000000000 ∷ 0x3ff0000000000000 ∷ 0x4000000000000000 ∷ 0x3ff0000000000000 ∷ 0x3ff0000000000000 ∷ 0x3ff0000000000000 ∷ 0 ∷ 0 ∷ 0x3d30000000000000 ∷ []; outcome = record { answer = Ok (Model 4); words = 0x3ff0000000000000 ∷ 0x3d40000000000000 ∷ 0x3ff0000000000000 ∷ 0x42b0000000000000 ∷ [] } }
     -- kind 7, counts 1 and 1 at the probabilities 2^-1074 and 1: the deviance is infinite
-    ∷ record { words = 0x7001020000010000 ∷ 0x3eb0000000000000 ∷ 0x3ff0000000000000 ∷ 1 ∷ 0x3ff0000000000000 ∷ 0 ∷ 0 ∷ 0 ∷ 0 ∷ 0 ∷ 1 ∷ 1 ∷ []; outcome = record { answer = Diagnostics; words = 0xc0874385446d71c3 ∷ 0x7ff0000000000000 ∷ [] } }
+    ∷ record { words = 0x7001020000010000 ∷ 0x3eb0000000000000 ∷ 0x3ff0000000000000 ∷ 1 ∷ 0x3ff0000000000000 ∷ 0 ∷ 0 ∷ 0 ∷ 0 ∷ 0 ∷ 1 ∷ 1 ∷ []; outcome = record { answer = Ok Diagnostics; words = 0xc0874385446d71c3 ∷ 0x7ff0000000000000 ∷ [] } }
     -- kind 5, state 1, effects 0.5 and 0.5, no gates, counts 1 and 1, default controls: effect 0 is moved, and both its probes fail
-    ∷ record { words = 0x5001020000010100 ∷ 200 ∷ 0x3fb999999999999a ∷ 0x3ee4f8b588e368f1 ∷ 0x3e45798ee2308c3a ∷ 0x3d719799812dea11 ∷ 0x3e112e0be826d695 ∷ 24 ∷ 0 ∷ 0x3ff0000000000000 ∷ 0x3fe0000000000000 ∷ 0x3fe0000000000000 ∷ 0 ∷ 0 ∷ 0 ∷ 0 ∷ 0 ∷ 1 ∷ 1 ∷ 0x2000000000000000 ∷ []; outcome = record { answer = Fit 1 0 5 true 3; words = 0xbff62e42fefa39ef ∷ 0 ∷ 0xbff62e42fefa39ef ∷ 0 ∷ 0x3ff62e42fefa39ef ∷ 0 ∷ 0x3ff0000000000000 ∷ 0x3fe0000000000000 ∷ 0x3fe0000000000000 ∷ [] } }
+    ∷ record { words = 0x5001020000010100 ∷ 200 ∷ 0x3fb999999999999a ∷ 0x3ee4f8b588e368f1 ∷ 0x3e45798ee2308c3a ∷ 0x3d719799812dea11 ∷ 0x3e112e0be826d695 ∷ 24 ∷ 0 ∷ 0x3ff0000000000000 ∷ 0x3fe0000000000000 ∷ 0x3fe0000000000000 ∷ 0 ∷ 0 ∷ 0 ∷ 0 ∷ 0 ∷ 1 ∷ 1 ∷ 0x2000000000000000 ∷ []; outcome = record { answer = Ok (Fit 1 0 5 true 3); words = 0xbff62e42fefa39ef ∷ 0 ∷ 0xbff62e42fefa39ef ∷ 0 ∷ 0x3ff62e42fefa39ef ∷ 0 ∷ 0x3ff0000000000000 ∷ 0x3fe0000000000000 ∷ 0x3fe0000000000000 ∷ [] } }
     ∷ []
 
 pub rows_right : Right rows

@@ -1,9 +1,9 @@
+use Rattle.std.proofs.Common.{Err}
 use mathlib.Core.Path.{ap, sym, ◌∙◌}
 use borrow.Author.Tests.{eq-eqb, ne_eqb}
 use Rattle.lists.proofs.Choices.{yes, no}
 use Rattle.refusal.specs.declared.Refusal.TheVariants.{Shape}
 use Rattle.card_layout.proofs.EachKind.{limited}
-use Rattle.card.specs.declared.Reading.TheVariants.{Refused}
 use Rattle.card.specs.Reading.{length_read}
 use Rattle.card.proofs.length_read.Goals as goal
 
@@ -23,4 +23,4 @@ pub returns : goal.returns
 unfolding length_read
 returns c =
     no _ (sym c.qubits_break.ensures ∙ c.if-qubits_break.false)
-    (no _ (ne_eqb _ _ (λ e. c.if-w-found.false (c.wanted-w.ensures ∙ e))) (ap (λ w. Refused (Shape w c.args.found)) c.wanted-w.ensures))
+    (no _ (ne_eqb _ _ (λ e. c.if-w-found.false (c.wanted-w.ensures ∙ e))) (ap (λ w. Err (Shape w c.args.found)) c.wanted-w.ensures))

@@ -1,31 +1,23 @@
-use Prim.Native.Nat.{◌+◌}
-use mathlib.Core.Path.{ap, sym, ◌∙◌}
-use mathlib.Core.Bool.{cond}
-use mathlib.Core.List.{[], ◌∷◌}
-use native.Mathlib.Omega.{arith}
-use native.Mathlib.Nat.{le_antisymm}
+use Rattle.std.proofs.Common.{◌-◌, [], ◌∷◌, None, Some, cond, ap, sym, ◌∙◌, arith}
 use Rattle.card_layout.specs.Layout.{times, coordinate}
 use Rattle.card_faults.specs.Walk.{walk}
-use Rattle.card_faults.specs.declared.Fault.TheVariants.{At, Nothing}
 use Rattle.card_faults.proofs.Walking.{times_none, times_more}
-use borrow.Author.Rules.{rules}
 use Rattle.card_faults.proofs.coordinates_fault.Goals as goal
 
-pub loop-i-init : goal.loop-i-init
-loop-i-init c = (search rules, sym (times_none _ _ _))
+pub loop-q-init : goal.loop-q-init
+loop-q-init c = sym (times_none _ _ _) ∙ ap (λ n. walk c.args.card.now c.args.p (times n (coordinate ∷ []))) (omega arith)
 
-pub loop-i-preserved : goal.loop-i-preserved
+pub loop-q-preserved : goal.loop-q-preserved
 unfolding walk
-loop-i-preserved c =
+loop-q-preserved c =
     let a = c.args in
-    let q = a.p + c.loop-i.i in (
-      search rules,
-      c.first_of-f.ensures
-          ∙ times_more a.card.now a.p c.loop-i.i (coordinate ∷ []) q c.loop-i.invariant.1 (omega arith)
-          (c.fault_if-g.ensures ∙ ap (λ b. cond b (At q) Nothing) c.coordinate_faulty.ensures),
-    )
+    let q = c.loop-q.q in
+    c.or-f.ensures
+    ∙ times_more a.card.now a.p (q - a.p) (coordinate ∷ []) q c.loop-q.invariant (omega arith)
+    (c.fault_if.ensures ∙ ap (λ b. cond b (Some q) None) c.coordinate_faulty.ensures)
+    ∙ ap (λ n. walk a.card.now a.p (times n (coordinate ∷ []))) (omega arith)
 
 pub returns : goal.returns
 returns c =
     let a = c.args in
-    c.loop-i.invariant.1 ∙ ap (λ n. walk a.card.now a.p (times n (coordinate ∷ []))) (le_antisymm (omega arith) (omega arith))
+    c.loop-q.invariant ∙ ap (λ n. walk a.card.now a.p (times n (coordinate ∷ []))) (omega arith)

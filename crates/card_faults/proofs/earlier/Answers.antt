@@ -1,14 +1,14 @@
 use Rattle.card_faults.specs.Walk.{earlier}
 use Rattle.card_faults.proofs.earlier.Goals as goal
 
-pub returns-in-At-b : goal.returns-in-At-b
+pub returns-in-Some-b : goal.returns-in-Some-b
 unfolding earlier
-returns-in-At-b c = cc
+returns-in-Some-b c = cc
 
-pub returns-in-Nothing-b : goal.returns-in-Nothing-b
+pub returns-in-None-b : goal.returns-in-None-b
 unfolding earlier
-returns-in-Nothing-b c = cc
+returns-in-None-b c = cc
 
-pub returns-in-Nothing : goal.returns-in-Nothing
+pub returns-in-None : goal.returns-in-None
 unfolding earlier
-returns-in-Nothing c = rw c.in-Nothing.is
+returns-in-None c = rw c.in-None.is

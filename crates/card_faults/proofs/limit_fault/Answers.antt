@@ -1,6 +1,6 @@
+use Rattle.std.proofs.Common.{None, Some}
 use lib.Dec.{ltb}
 use Rattle.lists.proofs.Choices.{no}
-use Rattle.card_faults.specs.declared.Fault.TheVariants.{At, Nothing}
 use mathlib.Core.Bool.{cond}
 use mathlib.Core.Path.{refl, sym, ap, ◌∙◌}
 use Rattle.card_faults.proofs.Walking.{absent, there}
@@ -15,7 +15,7 @@ returns-then-p-card c =
     let a = c.args in
     let word = c.word_at in
     c.fault_if.ensures
-    ∙ ap (λ b. cond b (At a.p) Nothing)
+    ∙ ap (λ b. cond b (Some a.p) None)
     (there a.card.now a.p (at_most a.limit) {b = ltb a.limit word.result} (search rules) (ap (ltb a.limit) word.ensures))
 
 pub returns : goal.returns

@@ -1,16 +1,8 @@
-use borrow.Author.Tests.{eq-eqb, ne_eqb}
+use Rattle.std.proofs.Common.{arith, rules}
+use borrow.Author.Tests.{ne_eqb}
 use Rattle.card_places.specs.Places.{model_at}
-use borrow.Author.Rules.{rules}
 use Rattle.card_places.proofs.model_at.Goals as goal
 
-pub returns-then-h-eq5 : goal.returns-then-h-eq5
+pub returns-in_default : goal.returns-in_default
 unfolding model_at
-returns-then-h-eq5 c = (simp (eq-eqb _ _ c.if-h-eq5.true), search rules)
-
-pub returns-then-h-eq6 : goal.returns-then-h-eq6
-unfolding model_at
-returns-then-h-eq6 c = (simp (ne_eqb _ _ c.if-h-eq5.false, eq-eqb _ _ c.if-h-eq6.true), search rules)
-
-pub returns : goal.returns
-unfolding model_at
-returns c = (simp (ne_eqb _ _ c.if-h-eq5.false, ne_eqb _ _ c.if-h-eq6.false), search rules)
+returns-in_default c = (rw (ne_eqb c.args.h.kind 5 (λ e. omega arith), ne_eqb c.args.h.kind 6 (λ e. omega arith)), search rules)

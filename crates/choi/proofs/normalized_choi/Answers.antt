@@ -1,26 +1,33 @@
-use Rattle.choi.proofs.Values.{good-finite, checked, values-refused, values-good}
-use Rattle.refusal.proofs.Verdicts.{good_length}
-use Rattle.lists.specs.Build.{over}
-use lib.Ieee.{Float}
+use Prim.Native.Nat.{ℕ, ◌^◌}
 use mathlib.Core.List.{List}
-use mathlib.Core.Path.{sym, ap, ◌∙◌}
+use mathlib.Core.Path.{ap, ◌∙◌, refl}
+use lib.Ieee.{Float}
+use lib.Seq.{length-take-le}
+use Rattle.std.proofs.lemmas.Result.{err_from_is_err_and}
+use Rattle.lists.specs.Build.{over}
+use Rattle.lists.proofs.Parts.{front-over}
+use Rattle.refusal.proofs.Verdicts.{good_length}
+use Rattle.choi.specs.Choi.{choi_of}
+use Rattle.choi.proofs.Steps.{room}
+use Rattle.choi.proofs.Sums.{length-choi, tested}
+use Rattle.choi.proofs.Values.{good-finite, checked, values-refused, values-good}
 use Rattle.choi.proofs.normalized_choi.Goals as goal
 
-pub choi_tested-requires : goal.choi_tested-requires
-choi_tested-requires c =
-    let v = checked c.args.n c.args.values.now _ _ _ c.four_to-p.ensures.0 c.square.ensures.0 c.check_numbers-found.ensures in
-    let g = sym c.in-Good.is ∙ v in
-    (c.requires.0, c.requires.1, good_length _ _ g, c.requires.2, good-finite _ _ g)
+pub choi-requires : goal.choi-requires
+choi-requires c =
+    let s = c.of-sizes.result.sides.strings ∙ ap (λ (n : ℕ). 4 ^ n) c.of-sizes.ensures in
+    (good_length _ _ c.in_ok-check_numbers.ensures, length-take-le _ _ (room _ _ _ s c.requires.2), good-finite _ _ c.in_ok-check_numbers.ensures)
 
-pub returns-in-Refused : goal.returns-in-Refused
-returns-in-Refused c =
-    let v = checked c.args.n c.args.values.now _ _ _ c.four_to-p.ensures.0 c.square.ensures.0 c.check_numbers-found.ensures in
-    let r = values-refused c.args.n c.args.values.now _ _ v c.in-Refused.is in
-    (r.0, ap (λ (x : List Float). over x c.args.out.now) r.1)
+pub returns-in_err-check_numbers : goal.returns-in_err-check_numbers
+returns-in_err-check_numbers c =
+    let q = err_from_is_err_and c.from_residual.result c.from_residual.ensures.1 in
+    let s = c.of-sizes.result.sides.strings ∙ ap (λ (n : ℕ). 4 ^ n) c.of-sizes.ensures in
+    let r = values-refused c.args.n c.args.values.now _ _ (checked c.args.n c.args.values.now _ _ _ s refl c.check_numbers.ensures) c.in_err-check_numbers.was in
+    rw (q.1, q.2) (r.0, ap (λ (x : List Float). over x c.args.out.now) r.1)
 
-pub returns-in-Good : goal.returns-in-Good
-returns-in-Good c =
-    let choi-tested = c.choi_tested.ensures in
-    let v = checked c.args.n c.args.values.now _ _ _ c.four_to-p.ensures.0 c.square.ensures.0 c.check_numbers-found.ensures in
-    let g = values-good c.args.n c.args.values.now _ v c.in-Good.is in
-    (choi-tested.0 ∙ g.0, choi-tested.1 ∙ ap (λ (x : List Float). over x c.args.out.now) g.1)
+pub returns : goal.returns
+returns c =
+    let s = c.of-sizes.result.sides.strings ∙ ap (λ (n : ℕ). 4 ^ n) c.of-sizes.ensures in
+    let e = c.choi.ensures ∙ ap (λ (n : ℕ). choi_of n c.args.values.now) c.of-sizes.ensures in
+    let g = values-good c.args.n c.args.values.now _ (checked c.args.n c.args.values.now _ _ _ s refl c.check_numbers.ensures) c.in_ok-check_numbers.was in
+    (tested _ _ _ _ e c.finite_or.ensures ∙ g.0, front-over _ _ _ _ e (length-choi _ _ _ s) ∙ ap (λ (x : List Float). over x c.args.out.now) g.1)

@@ -1,6 +1,4 @@
-use Prim.Native.Nat.{◌≤◌, ◌-◌}
 use mathlib.Core.Path.{◌≡◌}
-use lib.ListN.{length}
 use Rattle.lists.specs.Fold.{fold}
 use Rattle.entries.specs.Entries.{entries}
 use Rattle.entries.specs.Laid.{changed}
@@ -8,7 +6,4 @@ use Rattle.density.specs.Steps.{row_added}
 use Rattle.density.proofs.add_row.Given as goal
 
 abbrev pub invariant-loop-j : goal.invariant-loop-j
-invariant-loop-j l = (l.j ≤ l.n) × (length l.out ≡ length l.initial.out) × (entries l.out ≡ fold l.j (changed l.n (row_added l.x (entries l.u)) l.i) (entries l.initial.out))
-
-abbrev pub decreases-loop-j : goal.decreases-loop-j
-decreases-loop-j l = l.n - l.j
+invariant-loop-j l = entries l.out ≡ fold l.j (changed l.n (row_added l.x (entries l.u)) l.i) (entries l.initial.out)

@@ -1,6 +1,4 @@
-use Prim.Native.Nat.{◌≤◌, ◌-◌}
 use mathlib.Core.Path.{◌≡◌}
-use lib.ListN.{length}
 use Rattle.lists.specs.Fold.{fold}
 use Rattle.entries.specs.Entries.{entries}
 use Rattle.entries.specs.Laid.{changed_row}
@@ -8,7 +6,4 @@ use Rattle.density.proofs.Mixing.{term_added}
 use Rattle.density.proofs.add_term.Given as goal
 
 abbrev pub invariant-loop-i : goal.invariant-loop-i
-invariant-loop-i l = (l.i ≤ l.n) × (length l.out ≡ length l.initial.out) × (entries l.out ≡ fold l.i (changed_row l.n (term_added l.n (entries l.v) l.k l.p)) (entries l.initial.out))
-
-abbrev pub decreases-loop-i : goal.decreases-loop-i
-decreases-loop-i l = l.n - l.i
+invariant-loop-i l = entries l.out ≡ fold l.i (changed_row l.n (term_added l.n (entries l.v) l.k l.p)) (entries l.initial.out)

@@ -1,17 +1,15 @@
-use mathlib.Core.Path.{refl, sym, ap, ◌∙◌}
-use mathlib.Core.Bool.{not}
-use Rattle.lists.proofs.Choices.{yes, no}
-use Rattle.density.specs.Projection.{admission}
+use mathlib.Core.Path.{sym, ◌∙◌}
+use Rattle.std.proofs.lemmas.Result.{err_from_is_err_and}
+use Rattle.density.proofs.Outcome.{not-finite, not-positive, both-admitted}
 use Rattle.density.proofs.admit.Goals as goal
 
-pub returns-then-not-all_finite : goal.returns-then-not-all_finite
-unfolding admission
-returns-then-not-all_finite c = yes _ (ap not (sym c.all_finite.ensures ∙ c.if-not-all_finite.true))
+pub returns-in_err-finite_or : goal.returns-in_err-finite_or
+returns-in_err-finite_or c =
+    let q = err_from_is_err_and c.from_residual.result c.from_residual.ensures.1 in
+    rw (q.1, q.2) (not-finite _ _ _ c.in_err-finite_or.ensures)
 
 pub returns-then-not-is_positive : goal.returns-then-not-is_positive
-unfolding admission
-returns-then-not-is_positive c = no _ (ap not (sym c.all_finite.ensures ∙ c.if-not-all_finite.false)) (yes _ (ap not (sym c.is_positive.ensures ∙ c.if-not-is_positive.true)))
+returns-then-not-is_positive c = not-positive _ _ c.in_ok-finite_or.ensures (sym c.is_positive.ensures ∙ c.if-not-is_positive.true)
 
 pub returns : goal.returns
-unfolding admission
-returns c = no _ (ap not (sym c.all_finite.ensures ∙ c.if-not-all_finite.false)) (no _ (ap not (sym c.is_positive.ensures ∙ c.if-not-is_positive.false)) refl)
+returns c = both-admitted _ _ c.in_ok-finite_or.ensures (sym c.is_positive.ensures ∙ c.if-not-is_positive.false)

@@ -1,6 +1,4 @@
-use Prim.Native.Nat.{◌≤◌, ◌-◌}
 use mathlib.Core.Path.{◌≡◌}
-use lib.ListN.{length}
 use Rattle.lists.specs.Fold.{fold}
 use Rattle.entries.specs.Entries.{entries}
 use Rattle.entries.specs.Laid.{laid_row}
@@ -8,7 +6,4 @@ use Rattle.density.specs.Projection.{halved_at}
 use Rattle.density.proofs.halve.Given as goal
 
 abbrev pub invariant-loop-i : goal.invariant-loop-i
-invariant-loop-i l = (l.i ≤ l.n) × (length l.h ≡ length l.initial.h) × (entries l.h ≡ fold l.i (laid_row l.n (halved_at l.n (entries l.e))) (entries l.initial.h))
-
-abbrev pub decreases-loop-i : goal.decreases-loop-i
-decreases-loop-i l = l.n - l.i
+invariant-loop-i l = entries l.h ≡ fold l.i (laid_row l.n (halved_at l.n (entries l.e))) (entries l.initial.h)

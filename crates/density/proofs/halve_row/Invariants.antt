@@ -1,6 +1,4 @@
-use Prim.Native.Nat.{◌≤◌, ◌-◌}
 use mathlib.Core.Path.{◌≡◌}
-use lib.ListN.{length}
 use Rattle.lists.specs.Fold.{fold}
 use Rattle.entries.specs.Entries.{entries}
 use Rattle.entries.specs.Laid.{laid}
@@ -8,7 +6,4 @@ use Rattle.density.specs.Projection.{halved_at}
 use Rattle.density.proofs.halve_row.Given as goal
 
 abbrev pub invariant-loop-j : goal.invariant-loop-j
-invariant-loop-j l = (l.j ≤ l.n) × (length l.h ≡ length l.initial.h) × (entries l.h ≡ fold l.j (laid l.n (halved_at l.n (entries l.e)) l.i) (entries l.initial.h))
-
-abbrev pub decreases-loop-j : goal.decreases-loop-j
-decreases-loop-j l = l.n - l.j
+invariant-loop-j l = entries l.h ≡ fold l.j (laid l.n (halved_at l.n (entries l.e)) l.i) (entries l.initial.h)

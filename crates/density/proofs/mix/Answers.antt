@@ -1,10 +1,11 @@
-use mathlib.Core.Path.{sym}
-use lib.Seq.{length-take-le}
-use borrow.Author.Rules.{rules}
+use Prim.Native.Nat.{◌*◌}
+use mathlib.Core.Path.{◌∙◌, ap}
+use native.Mathlib.Omega.{arith}
+use Rattle.lists.proofs.Chains.{build-replicate}
+use Rattle.entries.specs.Entries.{entries}
+use Rattle.density.proofs.Mixing.{zeros, mixed-whole}
 use Rattle.density.proofs.mix.Goals as goal
 
-pub slice_bounds-mix_in-end : goal.slice_bounds-mix_in-end
-slice_bounds-mix_in-end c = sym (length-take-le _ _ (search rules))
-
-pub mix_in-requires : goal.mix_in-requires
-mix_in-requires c = (c.requires.0, c.requires.1, length-take-le _ _ (search rules), c.requires.2)
+pub returns : goal.returns
+returns c =
+    mixed-whole c.args.n (entries c.args.v.now) c.args.p.now _ _ _ (omega arith) (ap entries (c.fill.ensures.after (λ y e. e) ∙ build-replicate _ _) ∙ zeros (c.args.n * c.args.n) c.args.out.now c.requires.2) c.loop-k.invariant

@@ -1,35 +1,32 @@
-use Prim.Native.Nat.{ℕ, ◌*◌}
-use mathlib.Core.Path.{sym, ◌∙◌, ap}
-use native.Mathlib.Omega.{arith}
+use mathlib.Core.Path.{◌≡◌, refl, sym, ◌∙◌, ap}
+use mathlib.Core.List.{List, ◌++◌}
+use lib.ListN.{length, drop}
+use Prim.Native.Nat.{◌*◌}
 use lib.Seq.{length-take-le}
-use Rattle.sizes.proofs.Small.{product_le}
+use lib.Ieee.{Float}
 use borrow.Author.Rules.{rules}
+use Rattle.std.proofs.Common.{is_ok}
+use Rattle.std.proofs.lemmas.Result.{err_from_is_err_and}
+use Rattle.refusal.specs.declared.Refusal.TheVariants.{EigensolverDidNotConverge}
+use Rattle.density.proofs.Outcome.{used-up, found, written}
 use Rattle.density.proofs.project.Goals as goal
 
-pub slice_bounds-v-end : goal.slice_bounds-v-end
-slice_bounds-v-end c =
-    omega (arith, product_le c.args.n c.args.n 16 16 c.requires.2 c.requires.2)
+pub returns-in_err-map_err : goal.returns-in_err-map_err
+returns-in_err-map_err c =
+    let q = err_from_is_err_and c.from_residual.result c.from_residual.ensures.1 in
+    let h : c.in_err-map_err.field-0.0 ≡ EigensolverDidNotConverge = search rules in
+    rw (q.1, q.2, h) ((used-up _ _ _ _ _ _ _ c.halve.ensures c.eigen.ensures c.args.out.now (sym c.map_err.ensures.variant ∙ ap is_ok c.in_err-map_err.was)).0, refl)
 
-pub slice_bounds-project_onto-end : goal.slice_bounds-project_onto-end
-slice_bounds-project_onto-end c =
-    sym (length-take-le _ _ (omega (arith, product_le c.args.n c.args.n 16 16 c.requires.2 c.requires.2)))
-
-pub slice_bounds-project_onto-end-2 : goal.slice_bounds-project_onto-end-2
-slice_bounds-project_onto-end-2 c = sym (length-take-le _ _ (search rules))
-
-pub slice_bounds-r-end : goal.slice_bounds-r-end
-slice_bounds-r-end c =
-    omega (arith, product_le c.args.n c.args.n 16 16 c.requires.2 c.requires.2)
-
-pub slice_bounds-project_onto-end-3 : goal.slice_bounds-project_onto-end-3
-slice_bounds-project_onto-end-3 c =
-    sym (length-take-le _ _ (omega (arith, product_le c.args.n c.args.n 16 16 c.requires.2 c.requires.2)))
-
-pub project_onto-requires : goal.project_onto-requires
-project_onto-requires c =
-    let q = product_le c.args.n c.args.n 16 16 c.requires.2 c.requires.2 in
-    let e = ap (λ (m : ℕ). 2 * m) c.square-parts.ensures.0 in
-    (c.requires.0, length-take-le _ _ (omega (arith, q)) ∙ e, length-take-le _ _ (search rules), length-take-le _ _ (omega (arith, q)) ∙ e, c.requires.1, c.requires.2, c.requires.3)
+pub returns-in_err-finite_or : goal.returns-in_err-finite_or
+returns-in_err-finite_or c =
+    let q = err_from_is_err_and c.from_residual-in_err-finite_or.result c.from_residual-in_err-finite_or.ensures.1 in
+    let l : length c.mix.new.out ≡ 2 * (c.args.n * c.args.n) = c.mix.auto.out ∙ (length-take-le _ _ (search rules) ∙ c.requires.0) in
+    let t = found _ _ _ _ _ _ _ c.halve.ensures c.eigen.ensures _ _ _ (sym c.map_err.ensures.variant ∙ ap is_ok c.in_ok-map_err.was) c.fill.ensures c.mix.ensures l c.finite_or.ensures in
+    rw (q.1, q.2) (sym c.in_err-finite_or.was ∙ t.0, refl)
 
 pub returns : goal.returns
-returns c = c.project_onto.ensures
+returns c =
+    let l : length c.mix.new.out ≡ 2 * (c.args.n * c.args.n) = c.mix.auto.out ∙ (length-take-le _ _ (search rules) ∙ c.requires.0) in
+    let t = found _ _ _ _ _ _ _ c.halve.ensures c.eigen.ensures _ _ _ (sym c.map_err.ensures.variant ∙ ap is_ok c.in_ok-map_err.was) c.fill.ensures c.mix.ensures l c.finite_or.ensures in
+    written _ _ _ c.mix.new.out c.args.out.now _ c.in_ok-finite_or.was t refl
+    (ap (λ (z : List Float). z ++ drop (length c.mix.new.out) c.args.out.now) c.copy_from_slice.ensures.after)

@@ -1,4 +1,3 @@
-use Prim.Native.Nat.{◌≤◌, ◌-◌}
 use mathlib.Core.Path.{◌≡◌}
 use Rattle.lists.specs.Fold.{fold}
 use Rattle.numbers.specs.Number.{one_f, ◌*ᶠ◌}
@@ -7,7 +6,4 @@ use Rattle.designs.specs.Probes.{local}
 use Rattle.designs.proofs.expectation.Given as goal
 
 abbrev pub invariant-loop-qubit : goal.invariant-loop-qubit
-invariant-loop-qubit l = (l.qubit ≤ l.n) × (l.x ≡ fold l.qubit (λ q y. y *ᶠ local (digit_of 4 l.n l.probe q) (digit_of 4 l.n l.string q)) one_f)
-
-abbrev pub decreases-loop-qubit : goal.decreases-loop-qubit
-decreases-loop-qubit l = l.n - l.qubit
+invariant-loop-qubit l = l.x ≡ fold l.qubit (λ q y. y *ᶠ local (digit_of 4 l.n l.probe q) (digit_of 4 l.n l.string q)) one_f

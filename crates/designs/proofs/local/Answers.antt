@@ -1,7 +1,5 @@
-use mathlib.Core.Path.{refl}
-use Rattle.designs.specs.Probes.{local, local_expectations}
+use Rattle.designs.proofs.Digits.{entry}
 use Rattle.designs.proofs.local.Goals as goal
 
 pub returns : goal.returns
-unfolding local local_expectations
-returns c = refl
+returns c = entry _ _ c.requires.0 c.requires.1

@@ -1,33 +1,24 @@
-use Prim.Native.Nat.{zero-le}
 use mathlib.Core.Path.{refl, ◌∙◌}
-use Rattle.lists.proofs.Folding.{fold-none, fold_more, fold_end}
+use native.Mathlib.Omega.{arith}
+use lib.Ieee.{of_bits}
+use Rattle.std.proofs.lemmas.Result.{err_from_is_err_and}
+use Rattle.likelihood.proofs.Loops.{weighed-none, weighed-more, weighed-ends, weighed-all}
 use Rattle.diagnostics.specs.Diagnostics.{likelihood_by}
-use Rattle.diagnostics.proofs.Rooms.{room-on, record-fits}
-use Rattle.diagnostics.proofs.Turns.{turn_last}
-use native.Mathlib.Numerals.{add-one-dec, add-one-le}
 use Rattle.diagnostics.proofs.add_records.Goals as goal
 
 pub loop-r-init : goal.loop-r-init
-loop-r-init c = (zero-le, refl, refl, refl, fold-none _ _)
+unfolding of_bits
+loop-r-init c = (refl, weighed-none _ _)
 
-pub record_onward-l-requires : goal.record_onward-l-requires
-record_onward-l-requires c =
-    let s = c.requires in
-    let v = c.loop-r.invariant in
-    (s.0, s.1 _ c.loop-r-test.true, s.2, room-on _ _ _ s.3 v.1, room-on _ _ _ s.4 v.2, room-on _ _ _ s.5 v.3)
-
-pub overflow_step-r : goal.overflow_step-r
-overflow_step-r c = record-fits _ _ c.loop-r-test.true c.requires.0.limits.records
-
-pub loop-r-smaller : goal.loop-r-smaller
-loop-r-smaller c = add-one-dec _ _ c.loop-r-test.true
+pub returns-in_err-sum : goal.returns-in_err-sum
+unfolding likelihood_by
+returns-in_err-sum c =
+    let q = err_from_is_err_and c.from_residual.result c.from_residual.ensures.1 in
+    rw (q.1, q.2) (weighed-ends _ _ c.loop-r.r _ c.loop-r.invariant.1 _ _ (omega arith) c.in_err-sum.ensures)
 
 pub loop-r-preserved : goal.loop-r-preserved
-loop-r-preserved c =
-    let record-onward = c.record_onward-l in
-    let v = c.loop-r.invariant in
-    (add-one-le c.loop-r-test.true, record-onward.auto.sequence ∙ v.1, record-onward.auto.counts ∙ v.2, record-onward.auto.ps ∙ v.3, fold_more _ _ _ _ _ v.4 record-onward.ensures)
+loop-r-preserved c = (c.add_record.auto.room ∙ c.loop-r.invariant.0, weighed-more _ _ c.loop-r.r _ c.loop-r.invariant.1 _ c.in_ok-sum.ensures)
 
 pub returns : goal.returns
 unfolding likelihood_by
-returns c = fold_end _ _ _ _ _ (turn_last _ _ _ c.loop-r-test.false c.loop-r.invariant.0 refl) c.loop-r.invariant.4
+returns c = weighed-all _ _ c.loop-r.r _ c.loop-r.invariant.1 _ (omega arith)

@@ -1,14 +1,13 @@
 use native.Mathlib.Omega.{arith}
 use Rattle.lists.proofs.Filling.{fill_none, fill_more}
-use Rattle.diagnostics.proofs.Loading.{sequence-end}
-use borrow.Author.Rules.{rules}
+use Rattle.diagnostics.proofs.Loading.{sequence-all}
 use Rattle.diagnostics.proofs.load_sequence.Goals as goal
 
 pub loop-k-init : goal.loop-k-init
-loop-k-init c = (search rules, search rules, fill_none _ _)
+loop-k-init c = fill_none _ _
 
 pub loop-k-preserved : goal.loop-k-preserved
-loop-k-preserved c = (search rules, search rules, fill_more _ _ _ _ _ (search rules) c.loop-k.invariant.2 c.gate_in.ensures.0)
+loop-k-preserved c = fill_more _ _ _ _ _ (omega arith) c.loop-k.invariant c.gate_in.ensures.0
 
 pub returns : goal.returns
-returns c = sequence-end _ _ _ _ _ _ (omega arith) c.loop-k.invariant.2
+returns c = sequence-all c.args.card.now.bytes.now c.args.card.now.header c.args.r c.args.out.now c.loop-k.out c.loop-k.k (omega arith) c.requires.1 c.loop-k.invariant

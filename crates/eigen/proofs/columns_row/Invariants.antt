@@ -1,13 +1,9 @@
-use Prim.Native.Nat.{◌≤◌, ◌-◌}
 use mathlib.Core.Path.{◌≡◌}
-use lib.ListN.{length, get_or}
+use lib.ListN.{get_or}
 use Rattle.lists.specs.Fold.{fold}
 use Rattle.entries.specs.Entries.{entries, entry_at}
 use Rattle.entries.specs.Laid.{laid}
 use Rattle.eigen.proofs.columns_row.Given as goal
 
 abbrev pub invariant-loop-j : goal.invariant-loop-j
-invariant-loop-j l = (l.j ≤ l.n) × (length l.a ≡ length l.initial.a) × (entries l.a ≡ fold l.j (laid l.n (λ q m. entry_at l.n (entries l.v) q (get_or l.order m 0)) l.i) (entries l.initial.a))
-
-abbrev pub decreases-loop-j : goal.decreases-loop-j
-decreases-loop-j l = l.n - l.j
+invariant-loop-j l = entries l.a ≡ fold l.j (laid l.n (λ q m. entry_at l.n (entries l.v) q (get_or l.order m 0)) l.i) (entries l.initial.a)

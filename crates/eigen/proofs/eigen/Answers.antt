@@ -1,44 +1,26 @@
-use lib.Seq.{length-take-le}
-use Rattle.eigen.proofs.Copies.{rows_fit, square-fits, parts-fit}
-use mathlib.Core.Path.{sym}
+use mathlib.Core.List.{List}
+use mathlib.Core.Path.{◌∙◌, ap}
+use Prim.Native.Nat.{ℕ}
+use native.Mathlib.Omega.{arith}
+use Rattle.std.proofs.Common.{is_ok}
+use Rattle.std.proofs.lemmas.Grind.{common_steps}
+use Rattle.std.proofs.lemmas.Result.{err_from_is_err_and}
+use Rattle.entries.specs.Entries.{entries}
+use Rattle.eigen.specs.Jacobi.{columns_in}
+use Rattle.eigen.proofs.Running.{order-under, spectrum-is, spectrum-not}
 use Rattle.eigen.proofs.eigen.Goals as goal
 
-pub slice_bounds-v-end : goal.slice_bounds-v-end
-slice_bounds-v-end c =
-    parts-fit c.args.n _ c.requires.3 c.matrix_room-v.ensures
+pub columns-requires : goal.columns-requires
+columns-requires c =
+    (grind (arith, common_steps), grind (arith, common_steps), grind (arith, common_steps), order-under _ _ _ c.ascend.ensures.0)
 
-pub slice_bounds-eigen_in-end : goal.slice_bounds-eigen_in-end
-slice_bounds-eigen_in-end c =
-    sym (length-take-le _ _ (parts-fit c.args.n _ c.requires.3 c.matrix_room-v.ensures))
-
-pub slice_bounds-bounds-end : goal.slice_bounds-bounds-end
-slice_bounds-bounds-end c =
-    square-fits c.args.n _ c.requires.3 c.room-bounds.ensures
-
-pub slice_bounds-eigen_in-end-2 : goal.slice_bounds-eigen_in-end-2
-slice_bounds-eigen_in-end-2 c =
-    sym (length-take-le _ _ (square-fits c.args.n _ c.requires.3 c.room-bounds.ensures))
-
-pub slice_bounds-sizes-end : goal.slice_bounds-sizes-end
-slice_bounds-sizes-end c =
-    square-fits c.args.n _ c.requires.3 c.room-sizes.ensures
-
-pub slice_bounds-eigen_in-end-3 : goal.slice_bounds-eigen_in-end-3
-slice_bounds-eigen_in-end-3 c =
-    sym (length-take-le _ _ (square-fits c.args.n _ c.requires.3 c.room-sizes.ensures))
-
-pub slice_bounds-order-end : goal.slice_bounds-order-end
-slice_bounds-order-end c =
-    rows_fit c.args.n _ c.requires.3 c.places-order.ensures
-
-pub slice_bounds-eigen_in-end-4 : goal.slice_bounds-eigen_in-end-4
-slice_bounds-eigen_in-end-4 c =
-    sym (length-take-le _ _ (rows_fit c.args.n _ c.requires.3 c.places-order.ensures))
-
-pub eigen_in-requires : goal.eigen_in-requires
-eigen_in-requires c =
-    let a = c.args in
-    (c.requires.0, c.requires.1, length-take-le _ _ (parts-fit a.n _ c.requires.3 c.matrix_room-v.ensures), c.requires.2, length-take-le _ _ (square-fits a.n _ c.requires.3 c.room-bounds.ensures), length-take-le _ _ (square-fits a.n _ c.requires.3 c.room-sizes.ensures), length-take-le _ _ (rows_fit a.n _ c.requires.3 c.places-order.ensures))
+pub returns-in_err-run : goal.returns-in_err-run
+returns-in_err-run c =
+    let q = err_from_is_err_and c.from_residual.result c.from_residual.ensures.1 in
+    rw q.1 (spectrum-not _ _ _ _ _ _ _ _ _ _ c.unit.ensures (ap is_ok c.in_err-run.was) c.run.ensures)
 
 pub returns : goal.returns
-returns c = c.eigen_in.ensures
+returns c =
+    let run = c.run in
+    let s = c.ascend.ensures in
+    spectrum-is _ _ _ _ _ _ _ _ _ _ c.unit.ensures (ap is_ok c.in_ok-run.was) run.ensures s.1 (c.columns.ensures ∙ ap (λ (o : List ℕ). columns_in o c.args.n (entries run.new.v)) s.0)

@@ -1,26 +1,11 @@
-use native.Mathlib.Omega.{arith}
 use Rattle.eigen.proofs.Running.{turn-place, stepped}
 use Rattle.eigen.proofs.step.Goals as goal
 
-pub turn_of-t-requires : goal.turn_of-t-requires
-turn_of-t-requires c =
-    (c.requires.0, c.requires.4, c.requires.5)
-
 pub rotate-requires : goal.rotate-requires
-rotate-requires c =
-    let h = turn-place _ _ _ _ c.turn_of-t.ensures c.requires.4 c.requires.5 in (c.requires.0, h.0, h.1)
+rotate-requires c = let h = turn-place _ _ _ _ c.turn_of-t.ensures c.requires.3 c.requires.4 in (c.requires.0, h.0, h.1)
 
 pub turn_columns-requires : goal.turn_columns-requires
-turn_columns-requires c =
-    let h = turn-place _ _ _ _ c.turn_of-t.ensures c.requires.4 c.requires.5 in (c.requires.1, h.0, h.1)
-
-pub renote-requires : goal.renote-requires
-renote-requires c =
-    (omega arith, c.requires.2, c.requires.3, c.requires.4)
-
-pub renote-requires-2 : goal.renote-requires-2
-renote-requires-2 c =
-    (omega arith, omega arith, omega arith, c.requires.5)
+turn_columns-requires c = let h = turn-place _ _ _ _ c.turn_of-t.ensures c.requires.3 c.requires.4 in (c.requires.1, h.0, h.1)
 
 pub returns : goal.returns
 returns c = stepped _ _ _ _ _ _ _ _ _ _ _ c.turn_of-t.ensures c.rotate.ensures c.turn_columns.ensures c.renote.ensures c.renote-2.ensures

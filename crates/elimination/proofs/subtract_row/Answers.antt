@@ -5,17 +5,16 @@ use Rattle.lists.proofs.Filling.{fill_none, fill-all, map_more}
 use Rattle.numbers.specs.Number.{◌-ᶠ◌, ◌*ᶠ◌}
 use Rattle.numbers.specs.Slice.{at}
 use Rattle.elimination.specs.Rows.{less_row}
-use borrow.Author.Rules.{rules}
 use Rattle.elimination.proofs.subtract_row.Goals as goal
 
 pub loop-j-init : goal.loop-j-init
-loop-j-init c = (search rules, search rules, fill_none _ _)
+loop-j-init c = fill_none _ _
 
 pub loop-j-preserved : goal.loop-j-preserved
 loop-j-preserved c =
     let a = c.args in
-    (search rules, search rules, map_more nan (λ j x. x -ᶠ a.f *ᶠ at a.pivot.now j) a.row.now _ _ _ (search rules) c.loop-j.invariant.2 refl)
+    map_more nan (λ j x. x -ᶠ a.f *ᶠ at a.pivot.now j) a.row.now _ _ _ (omega arith) c.loop-j.invariant refl
 
 pub returns : goal.returns
 unfolding less_row
-returns c = fill-all _ _ _ _ (omega arith) c.loop-j.invariant.2
+returns c = fill-all _ _ _ _ (omega arith) c.loop-j.invariant

@@ -1,36 +1,19 @@
-use mathlib.Core.Path.{refl, sym, ◌∙◌}
-use lib.Ieee.{of_bits}
-use Rattle.objective.specs.Job.{job_by}
+use mathlib.Core.Path.{ap}
+use mathlib.Core.List.{List}
+use lib.Ieee.{Float, of_bits}
+use lib.ListN.{set}
+use Rattle.numbers.specs.Number.{◌+ᶠ◌, ◌-ᶠ◌, ◌*ᶠ◌}
+use Rattle.numbers.specs.Slice.{at}
+use Rattle.objective.specs.Tasks.{job_in}
 use Rattle.evaluation.proofs.Slopes.{derivative-by}
-use Rattle.diagnostics.proofs.Turns.{turn-of, place-fits}
 use Rattle.evaluation.proofs.derivative.Goals as goal
-
-pub offset_bounds-xs-i : goal.offset_bounds-xs-i
-offset_bounds-xs-i c =
-    place-fits _ _ _ c.requires.5 refl c.requires.0.placed.few
-
-pub bounds-xs-i : goal.bounds-xs-i
-bounds-xs-i c =
-    turn-of _ _ _ c.requires.5 (sym c.requires.2)
-
-pub put_probe-requires : goal.put_probe-requires
-put_probe-requires c =
-    let s = c.requires in
-    (s.3 ∙ sym s.2, turn-of _ _ _ s.5 (sym s.2))
-
-pub put_probe-requires-2 : goal.put_probe-requires-2
-put_probe-requires-2 c =
-    let s = c.requires in
-    (s.4 ∙ sym s.2, turn-of _ _ _ s.5 (sym s.2))
-
-pub evaluate_both-p-requires : goal.evaluate_both-p-requires
-evaluate_both-p-requires c =
-    let s = c.requires in
-    (s.0, s.1, c.put_probe.auto.probed ∙ s.3, c.put_probe-2.auto.probed ∙ s.4)
 
 pub returns : goal.returns
 unfolding of_bits
 returns c =
-    let evaluate-both = c.evaluate_both-p.ensures in
     let a = c.args in
-    derivative-by (job_by a.card.now a.h a.places.now a.c) a.xs.now a.o a.i _ _ _ _ _ _ _ c.abs_of.ensures c.max_of.ensures c.put_probe.ensures c.put_probe-2.ensures evaluate-both.0 evaluate-both.1 c.difference.ensures
+    let p = c.evaluate_both.ensures in
+    let x = at a.xs.now a.i in
+    let e = a.t.now.config.finite_difference_step *ᶠ c.max_of.result in
+    derivative-by (job_in a.t.now) a.xs.now a.o a.i _ _ _ _ _ _ _ c.abs_of.ensures c.max_of.ensures (ap (λ (l : List Float). set l a.i (x +ᶠ e)) c.copy_from_slice.ensures.after)
+    (ap (λ (l : List Float). set l a.i (x -ᶠ e)) c.copy_from_slice-2.ensures.after) p.0 p.1 c.difference.ensures

@@ -1,38 +1,29 @@
-use mathlib.Core.Path.{refl, sym, ◌∙◌}
-use lib.Seq.{length-take-le}
-use Rattle.model_words.proofs.Sizes.{gates-most}
-use Rattle.objective.proofs.Lending.{fits-room}
+use mathlib.Core.Path.{refl}
+use native.Mathlib.Omega.{arith}
+use lib.ListN.{length}
+use Rattle.std.proofs.lemmas.Result.{err_from_is_err_and}
+use Rattle.descent.specs.Fit.{derivative, gradient}
+use Rattle.objective.specs.Tasks.{job_in}
+use Rattle.evaluation.proofs.Slopes.{slopes-none, slopes-more, slopes-stop, slopes-all}
 use Rattle.evaluation.proofs.gradient.Goals as goal
 
-pub model_numbers-count-requires : goal.model_numbers-count-requires
-model_numbers-count-requires c =
-    let l = c.requires.0.placed.shaped.limits in
-    (l.dimension, l.effects, l.gates)
+pub loop-i-init : goal.loop-i-init
+loop-i-init c = slopes-none _ c.args.g.now
 
-pub slice_bounds-left-end : goal.slice_bounds-left-end
-slice_bounds-left-end c =
-    fits-room _ _ _ _ c.requires.1 c.requires.0.placed.few c.probe_room-left.ensures
+pub returns-in_err-slope : goal.returns-in_err-slope
+unfolding gradient
+returns-in_err-slope c =
+    let q = err_from_is_err_and c.from_residual.result c.from_residual.ensures.1 in
+    let a = c.args in
+    rw (q.1, q.2) (slopes-stop (derivative (job_in a.t.now) a.xs.now a.o) c.loop-i.i (length a.t.now.places.now) c.loop-i.g _ _ c.loop-i.invariant c.in_err-slope.ensures refl (omega arith))
 
-pub slice_bounds-differentiate-end : goal.slice_bounds-differentiate-end
-slice_bounds-differentiate-end c =
-    sym (length-take-le _ _ (fits-room _ _ _ _ c.requires.1 c.requires.0.placed.few c.probe_room-left.ensures))
-
-pub slice_bounds-other-end : goal.slice_bounds-other-end
-slice_bounds-other-end c = fits-room _ _ _ _ refl c.model_numbers-count.ensures.1 c.model_room-other.ensures
-
-pub slice_bounds-differentiate-end-2 : goal.slice_bounds-differentiate-end-2
-slice_bounds-differentiate-end-2 c = sym (length-take-le _ _ (fits-room _ _ _ _ refl c.model_numbers-count.ensures.1 c.model_room-other.ensures))
-
-pub slice_bounds-differentiate-end-3 : goal.slice_bounds-differentiate-end-3
-slice_bounds-differentiate-end-3 c = c.columns_room-others.ensures
-
-pub differentiate-requires : goal.differentiate-requires
-differentiate-requires c =
-    let model-numbers = c.model_numbers-count.ensures in
-    let s = c.requires in
-    (s.0, record { placed = s.0.placed; anchored = s.0.anchored; model_room = length-take-le _ _ (fits-room _ _ _ _ refl model-numbers.1 c.model_room-other.ensures) ∙ model-numbers.0; columns_room = fits-room _ _ _ _ refl (gates-most c.args.h s.0.placed.shaped.limits) c.columns_room-others.ensures }, s.1, s.2, s.3, length-take-le _ _ (fits-room _ _ _ _ s.1 s.0.placed.few c.probe_room-left.ensures) ∙ s.1)
+pub loop-i-preserved : goal.loop-i-preserved
+loop-i-preserved c =
+    let a = c.args in
+    slopes-more (derivative (job_in a.t.now) a.xs.now a.o) c.loop-i.i c.loop-i.g _ _ c.loop-i.invariant c.in_ok-slope.ensures refl (omega arith)
 
 pub returns : goal.returns
+unfolding gradient
 returns c =
-    let differentiate = c.differentiate in
-    (differentiate.ensures, differentiate.auto.right, differentiate.auto.model, differentiate.auto.columns)
+    let a = c.args in
+    slopes-all (derivative (job_in a.t.now) a.xs.now a.o) c.loop-i.i (length a.t.now.places.now) c.loop-i.g c.loop-i.invariant (omega arith) (omega arith)

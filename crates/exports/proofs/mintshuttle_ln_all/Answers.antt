@@ -1,3 +1,4 @@
+use Rattle.std.proofs.Common.{rules}
 use mathlib.Core.Path.{ap, ◌∙◌}
 use mathlib.Core.List.{◌++◌}
 use lib.ListN.{drop}
@@ -10,6 +11,5 @@ use Rattle.exports.proofs.mintshuttle_ln_all.Goals as goal
 pub returns : goal.returns
 returns c =
     let a = c.args in
-    let shorter = c.shorter-n in
-    let n = shorter.result in
-    record { count = shorter.ensures.0; numbers = c.logarithms.ensures ∙ ap (λ (f : Float → Float). build n (λ i. f (at a.x.now i)) ++ drop n a.out.now) (by-tables _ _ c.tables-t.ensures) }
+    let n = c.min-n.result in
+    record { count = search rules; numbers = c.logarithms.ensures ∙ ap (λ (f : Float → Float). build n (λ i. f (at a.x.now i)) ++ drop n a.out.now) (by-tables _ _ c.tables-t.ensures) }

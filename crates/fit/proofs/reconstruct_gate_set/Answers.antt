@@ -1,34 +1,59 @@
-use Prim.Native.Nat.{◌≤◌}
-use mathlib.Core.Path.{sym, ap, subst, ◌∙◌}
-use Rattle.lists.proofs.Parts.{front-again, front_length}
+use mathlib.Core.Path.{refl, ap, ◌∙◌}
+use Rattle.std.proofs.Common.{Err}
+use native.Mathlib.Omega.{arith}
+use lib.ListN.{length, drop}
+use borrow.Author.Rules.{rules}
+use mathlib.Core.Bool.{true}
+use Rattle.std.proofs.lemmas.Result.{err_from_is_err_and}
+use Rattle.lists.proofs.Parts.{front-again, front-is}
+use Rattle.model_words.specs.Words.{numbers_of}
+use Rattle.diagnostics.specs.Diagnostics.{likelihood_of}
 use Rattle.descent.specs.declared.GstOptimizerConfig.{GstOptimizerConfig}
-use Rattle.descent.specs.Fit.{fit_of}
+use Rattle.descent.specs.Fit.{Job, fit_of}
 use Rattle.parameters.specs.Parameters.{places_of}
 use Rattle.parameters.proofs.Places.{length-places}
-use Rattle.fit.proofs.Whole.{controls-in, placed_by, job-by}
-use borrow.Author.Rules.{rules}
+use Rattle.objective.proofs.Maps.{length-map}
+use Rattle.fit.specs.Outcome.{job_of}
+use Rattle.fit.proofs.Whole.{fit-by, controls-in, placed_by, job-by}
 use Rattle.fit.proofs.reconstruct_gate_set.Goals as goal
 
-pub config_of-c-requires : goal.config_of-c-requires
-config_of-c-requires c =
-    controls-in c.args.card.now c.args.h c.requires.0 c.requires.1
+pub config_of-config-requires : goal.config_of-config-requires
+config_of-config-requires c =
+    let k = c.args.card.now in
+    controls-in k.bytes.now k.header k.shaped c.requires.0
 
-pub slice_bounds-fit_at-end : goal.slice_bounds-fit_at-end
-slice_bounds-fit_at-end c =
-    sym (front_length (places_of c.args.card.now c.args.h) _ c.load_places.ensures (length-places _ _))
+pub begin-requires : goal.begin-requires
+begin-requires c =
+    let k = c.args.card.now in
+    let s = k.bytes.now in
+    let e = front-again (places_of s k.header) (drop (length (places_of s k.header)) _) c.load_places.ensures (length-places s k.header) in
+    let p = placed_by s k.header k.shaped c.requires.0 c.requires.1 c.requires.2 c.requires.3 _ e in
+    (omega (arith, c.requires.0), c.requires.2, p.inside, search rules, search rules, search rules)
 
-pub fit_at-requires : goal.fit_at-requires
-fit_at-requires c =
-    let config-of = c.config_of-c.ensures in
-    let ps = front-again (places_of c.args.card.now c.args.h) _ c.load_places.ensures (length-places _ _) in (
-      placed_by c.args.card.now c.args.h c.requires.0 c.requires.1 c.requires.2 c.requires.3 c.requires.4 _ ps,
-      c.requires.7,
-      c.requires.8,
-      subst (λ (c : GstOptimizerConfig). c.max_backtracks ≤ 255) (sym config-of) c.requires.5,
-      subst (λ (c : GstOptimizerConfig). c.max_iterations ≤ 65535) (sym config-of) c.requires.6,
-    )
+pub returns-in_err-d : goal.returns-in_err-d
+returns-in_err-d c =
+    let k = c.args.card.now in
+    let s = k.bytes.now in
+    let q = err_from_is_err_and c.from_residual.result c.from_residual.ensures.1 in
+    rw (q.1, q.2)
+    (fit-by (job_of s k.header) (Err c.in_err-d.field-0.0)
+    (c.in_err-d.ensures.0 ∙ ap (λ (c : GstOptimizerConfig). likelihood_of true c.probability_tolerance s k.header (numbers_of s k.header)) c.config_of-config.ensures) _ refl refl)
+
+pub invariant_of-task : goal.invariant_of-task
+invariant_of-task c =
+    let k = c.args.card.now in
+    let s = k.bytes.now in
+    let e = front-again (places_of s k.header) (drop (length (places_of s k.header)) _) c.load_places.ensures (length-places s k.header) in
+    record {
+      placed = placed_by s k.header k.shaped c.requires.0 c.requires.1 c.requires.2 c.requires.3 _ e;
+      backtracks = rw c.config_of-config.ensures c.requires.4;
+      iterations = rw c.config_of-config.ensures c.requires.5;
+      anchored = front-is k.header.coordinates c.begin.new.anchor _ _ c.begin.ensures.1 (length-map _ _ ∙ ap length e ∙ length-places s k.header);
+    }
 
 pub returns : goal.returns
 returns c =
-    let ps = front-again (places_of c.args.card.now c.args.h) _ c.load_places.ensures (length-places _ _) in
-    (c.fit_at.ensures ∙ ap fit_of (job-by c.args.card.now c.args.h _ _ ps c.config_of-c.ensures), search rules, search rules)
+    let k = c.args.card.now in
+    let s = k.bytes.now in
+    let e = front-again (places_of s k.header) (drop (length (places_of s k.header)) _) c.load_places.ensures (length-places s k.header) in
+    c.fit_from.ensures ∙ ap (λ (J : Job). fit_of J) (job-by s k.header _ _ e c.config_of-config.ensures)

@@ -1,12 +1,8 @@
-use Prim.Native.Nat.{◌≤◌, ◌-◌}
 use mathlib.Core.Path.{◌≡◌}
+use Rattle.refusal.specs.Verdicts.{good}
 use Rattle.lists.specs.Fold.{fold}
-use Rattle.refusal.specs.declared.Verdict.TheVariants.{Good}
 use Rattle.gate_set.proofs.Sequences.{tested}
 use Rattle.gate_set.proofs.check_sequence.Given as goal
 
-abbrev pub invariant-loop-k : goal.invariant-loop-k
-invariant-loop-k l = (l.k ≤ l.n) × (Good ≡ fold l.k (tested l.gates l.sequence) Good)
-
-abbrev pub decreases-loop-k : goal.decreases-loop-k
-decreases-loop-k l = l.n - l.k
+abbrev pub invariant-loop-g : goal.invariant-loop-g
+invariant-loop-g l = good ≡ fold l.g-index (tested l.gates l.sequence) good

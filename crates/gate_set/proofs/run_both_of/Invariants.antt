@@ -1,12 +1,7 @@
-use Prim.Native.Nat.{◌≤◌, ◌-◌}
 use mathlib.Core.Path.{◌≡◌}
-use lib.ListN.{length}
 use Rattle.lists.specs.Fold.{fold}
 use Rattle.gate_set.proofs.Columns.{gate_by}
 use Rattle.gate_set.proofs.run_both_of.Given as goal
 
-abbrev pub invariant-loop-k : goal.invariant-loop-k
-invariant-loop-k l = (l.k ≤ l.n) × (length l.x ≡ l.d) × (length l.y ≡ l.d) × (l.x ≡ fold l.k (gate_by l.d l.columns l.sequence) l.initial.x) × (l.y ≡ fold l.k (gate_by l.d l.others l.sequence) l.initial.y)
-
-abbrev pub decreases-loop-k : goal.decreases-loop-k
-decreases-loop-k l = l.n - l.k
+abbrev pub invariant-loop-g : goal.invariant-loop-g
+invariant-loop-g l = (l.x ≡ fold l.g-index (gate_by l.d l.columns l.sequence) l.initial.x) × (l.y ≡ fold l.g-index (gate_by l.d l.others l.sequence) l.initial.y)

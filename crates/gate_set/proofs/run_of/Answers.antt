@@ -1,50 +1,29 @@
-use mathlib.Core.Path.{sym, ◌∙◌}
-use native.Mathlib.Nat.{mul-le-mul}
-use native.Mathlib.Numerals.{add-one-le, add-one-dec}
 use native.Mathlib.Omega.{arith}
 use Rattle.lists.proofs.Folding.{fold-none, fold_end}
 use Rattle.gate_set.specs.GateSet.{through}
 use Rattle.gate_set.proofs.Columns.{gate-lent, gate-more}
-use borrow.Author.Rules.{rules}
 use Rattle.gate_set.proofs.run_of.Goals as goal
 
-pub overflow_mul-m : goal.overflow_mul-m
-overflow_mul-m c =
-    omega (arith, mul-le-mul c.requires.0 c.requires.0)
+pub loop-g-init : goal.loop-g-init
+loop-g-init c = fold-none _ _
 
-pub loop-k-init : goal.loop-k-init
-loop-k-init c = (search rules, c.requires.1, fold-none _ _)
-
-pub overflow_mul-start : goal.overflow_mul-start
-overflow_mul-start c = omega (arith, c.requires.2 c.loop-k.k c.loop-k-test.true)
-
-pub overflow_add-end : goal.overflow_add-end
-overflow_add-end c = omega (arith, c.requires.2 c.loop-k.k c.loop-k-test.true)
-
-pub offset_bounds-columns-start : goal.offset_bounds-columns-start
-offset_bounds-columns-start c = omega (arith, c.requires.2 c.loop-k.k c.loop-k-test.true)
+pub row-requires : goal.row-requires
+row-requires c = omega (arith, c.requires.2 c.loop-g.g-index c.loop-g-test.true)
 
 pub slice_bounds-row_times-end : goal.slice_bounds-row_times-end
-slice_bounds-row_times-end c = c.requires.2 c.loop-k.k c.loop-k-test.true
+slice_bounds-row_times-end c = omega (arith, c.requires.2 c.loop-g.g-index c.loop-g-test.true, c.row.ensures)
 
 pub row_times-requires : goal.row_times-requires
 row_times-requires c =
     let a = c.args in
-    let l = c.loop-k in
-    (c.requires.0, l.invariant.1, gate-lent a.d a.columns.now a.sequence.now l.k c.requires.2 c.loop-k-test.true)
+    (c.requires.0, omega arith, gate-lent a.d a.columns.now a.sequence.now c.loop-g.g-index _ _ c.row.ensures c.requires.2 c.loop-g-test.true)
 
-pub loop-k-smaller : goal.loop-k-smaller
-loop-k-smaller c = add-one-dec _ _ c.loop-k-test.true
-
-pub loop-k-preserved : goal.loop-k-preserved
-loop-k-preserved c =
+pub loop-g-preserved : goal.loop-g-preserved
+loop-g-preserved c =
     let a = c.args in
-    let l = c.loop-k in
-    (add-one-le c.loop-k-test.true, omega arith, gate-more a.d a.columns.now a.sequence.now l.k a.x.now l.x _ l.invariant.2 c.row_times.ensures)
-
-pub shape_of-x : goal.shape_of-x
-shape_of-x c = c.loop-k.invariant.1 ∙ sym c.requires.1
+    let l = c.loop-g in
+    gate-more a.d a.columns.now a.sequence.now l.g-index _ _ a.x.now l.x _ c.row.ensures l.invariant c.row_times.ensures
 
 pub returns : goal.returns
 unfolding through
-returns c = fold_end _ _ _ _ _ (omega arith) c.loop-k.invariant.2
+returns c = fold_end _ _ _ _ _ (omega arith) c.loop-g.invariant

@@ -1,11 +1,5 @@
-use Prim.Native.Nat.{◌≤◌, ◌-◌}
-use mathlib.Core.Path.{◌≡◌}
-use lib.ListN.{length}
 use Rattle.lists.proofs.Filling.{Filled}
 use Rattle.inversion.proofs.number_places.Given as goal
 
 abbrev pub invariant-loop-c : goal.invariant-loop-c
-invariant-loop-c l = (l.c ≤ l.n) × (length l.places ≡ length l.initial.places) × Filled (λ j. j) l.initial.places l.c l.places
-
-abbrev pub decreases-loop-c : goal.decreases-loop-c
-decreases-loop-c l = l.n - l.c
+invariant-loop-c l = Filled (λ j. j) l.initial.places l.c l.places

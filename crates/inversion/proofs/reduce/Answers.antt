@@ -1,13 +1,20 @@
+use Prim.Native.Nat.{◌+◌}
 use native.Mathlib.Omega.{arith}
-use Rattle.inversion.proofs.Reductions.{stands-first, stands-next, stands-last}
+use Rattle.std.proofs.lemmas.Result.{err_from_is_err_and}
+use Rattle.inversion.proofs.Reductions.{stands-first, stands-next, stands-last, ended-last}
 use borrow.Author.Rules.{rules}
 use Rattle.inversion.proofs.reduce.Goals as goal
 
 pub loop-k-init : goal.loop-k-init
-loop-k-init c = (search rules, search rules, search rules, stands-first _ _ _ _ _ _ c.requires.3 c.number_places.ensures c.start_rows.ensures)
+loop-k-init c = (search rules, search rules, stands-first _ _ _ _ _ _ c.requires.3 c.number_places.ensures c.start_rows.ensures)
 
 pub loop-k-preserved : goal.loop-k-preserved
-loop-k-preserved c = (search rules, search rules, search rules, stands-next _ _ _ _ _ _ _ (c.reduce_column-going.ensures _ c.loop-k.invariant.3))
+loop-k-preserved c = (search rules, search rules, stands-next _ _ _ _ _ _ _ (c.in_ok-reduce_column.ensures _ c.loop-k.invariant.2))
+
+pub returns-in_err-reduce_column : goal.returns-in_err-reduce_column
+returns-in_err-reduce_column c =
+    let q = err_from_is_err_and c.from_residual.result c.from_residual.ensures.1 in
+    rw q.1 (ended-last _ _ _ (c.loop-k.k + 1) _ _ (omega arith) (stands-next _ _ _ _ _ _ _ (c.in_err-reduce_column.ensures _ c.loop-k.invariant.2)))
 
 pub returns : goal.returns
-returns c = stands-last _ _ _ _ _ _ _ (omega arith) c.loop-k.invariant.3
+returns c = stands-last _ _ _ _ _ _ _ (omega arith) c.loop-k.invariant.2

@@ -1,8 +1,5 @@
-use Rattle.outcome.proofs.Outcomes.{blank-same}
-use mathlib.Core.Path.{◌∙◌}
+use Rattle.std.proofs.Common.{rules}
 use Rattle.library.proofs.apply_expectations.Goals as goal
 
 pub returns : goal.returns
-returns c =
-    let ran = c.apply-answer in
-    record { gives = ran.ensures; blanked = c.clear.ensures ∙ blank-same ran.new.work c.args.work.now ran.auto.work }
+returns c = c.in_room.ensures _ (record { gives = λ p p' q q' r a b e. search rules })

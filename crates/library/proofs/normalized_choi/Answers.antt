@@ -1,8 +1,5 @@
-use Rattle.outcome.proofs.Outcomes.{blank-same}
-use mathlib.Core.Path.{◌∙◌}
+use Rattle.std.proofs.Common.{rules}
 use Rattle.library.proofs.normalized_choi.Goals as goal
 
 pub returns : goal.returns
-returns c =
-    let ran = c.choi_matrix-answer in
-    record { gives = ran.ensures; blanked = c.clear.ensures ∙ blank-same ran.new.work c.args.work.now ran.auto.work }
+returns c = c.in_room.ensures _ (record { gives = λ p p' q q' r a b e. search rules })

@@ -1,24 +1,16 @@
-use Rattle.std.proofs.Common.{refl, arith, rules}
+use Rattle.std.proofs.Common.{arith}
 use Rattle.lists.proofs.Folding.{fold-none, fold_more}
 use Rattle.likelihood.proofs.Counts.{too_many, counted}
 use Rattle.likelihood.proofs.add_counts.Goals as goal
 
-pub loop-k-init : goal.loop-k-init
-loop-k-init c = (search rules, search rules, fold-none _ _)
+pub loop-c-init : goal.loop-c-init
+loop-c-init c = (fold-none _ _, omega arith)
 
-pub overflow_sub-t : goal.overflow_sub-t
-overflow_sub-t c = omega arith
+pub returns-in_err-t : goal.returns-in_err-t
+returns-in_err-t c = rw c.from_residual.ensures (too_many _ _ _ (omega arith) c.loop-c.invariant.0 c.in_err-t.ensures)
 
-pub returns-then-t-c : goal.returns-then-t-c
-returns-then-t-c c =
-    let l = c.loop-k.invariant in
-    too_many _ _ _ (search rules) l.2 l.1 c.if-t-c.true
-
-pub overflow_add-t : goal.overflow_add-t
-overflow_add-t c = omega arith
-
-pub loop-k-preserved : goal.loop-k-preserved
-loop-k-preserved c = (search rules, omega arith, fold_more _ _ _ _ _ c.loop-k.invariant.2 refl)
+pub loop-c-preserved : goal.loop-c-preserved
+loop-c-preserved c = let e = c.in_ok-t.ensures in (fold_more _ _ _ _ _ c.loop-c.invariant.0 e.1, omega (arith, e))
 
 pub returns : goal.returns
-returns c = counted _ _ _ (omega arith) c.loop-k.invariant.2 c.loop-k.invariant.1
+returns c = counted _ _ _ (omega arith) c.loop-c.invariant.0 c.loop-c.invariant.1

@@ -11,6 +11,6 @@ pub returns-then-p-2 : goal.returns-then-p-2
 unfolding clamped
 returns-then-p-2 c = no _ c.if-p.false (yes _ c.if-p-2.true)
 
-pub returns : goal.returns
+pub returns-else-p-2 : goal.returns-else-p-2
 unfolding clamped
-returns c = no _ c.if-p.false (no _ c.if-p-2.false refl)
+returns-else-p-2 c = no _ c.if-p.false (no _ c.if-p-2.false refl)

@@ -1,10 +1,20 @@
-use Rattle.likelihood.specs.Multinomial.{failing}
+use Rattle.std.proofs.Common.{false, ◌∙◌}
+use lib.Ieee.{nan, neg, of_bits}
+use Rattle.lists.proofs.Chains.{fold-list}
+use Rattle.numbers.specs.Number.{minus_zero_f}
+use Rattle.matrix.specs.Product.{sum_of}
+use Rattle.likelihood.specs.Multinomial.{any_bad, failing}
 use Rattle.likelihood.proofs.fails.Goals as goal
 
 pub returns-then-any_bad : goal.returns-then-any_bad
-unfolding failing
-returns-then-any_bad c = rw (← c.any_bad.ensures, c.if-any_bad.true)
+unfolding failing any_bad
+returns-then-any_bad c =
+    let e = c.any_bad.ensures ∙ fold-list _ false nan c.args.ps.now in
+    rw (← e, c.if-any_bad.true)
 
-pub returns : goal.returns
-unfolding failing
-returns c = rw (← c.any_bad.ensures, c.if-any_bad.false, c.abs_of.ensures, c.sum.ensures)
+pub returns-else-any_bad : goal.returns-else-any_bad
+unfolding neg of_bits failing any_bad sum_of
+returns-else-any_bad c =
+    let e = c.any_bad.ensures ∙ fold-list _ false nan c.args.ps.now in
+    let s = c.add_to.ensures ∙ fold-list _ minus_zero_f nan c.args.ps.now in
+    rw (← e, c.if-any_bad.false, c.abs_of.ensures, s)

@@ -7,9 +7,6 @@ unfolding ln_of part poly
 returns c =
     let k = constants in
     simp (
-      c.nearest_u64_to_f64-l.ensures,
-      c.nearest_u64_to_f64-c.ensures,
-      c.nearest_u64_to_f64-e.ensures,
       k.one,
       k.three,
       k.five,

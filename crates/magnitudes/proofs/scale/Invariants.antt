@@ -1,4 +1,3 @@
-use Prim.Native.Nat.{◌≤◌, ◌-◌}
 use mathlib.Core.Path.{◌≡◌}
 use lib.ListN.{get_or}
 use Rattle.lists.specs.Fold.{fold}
@@ -8,7 +7,4 @@ use Rattle.magnitudes.specs.Notes.{widened}
 use Rattle.magnitudes.proofs.scale.Given as goal
 
 abbrev pub invariant-loop-k : goal.invariant-loop-k
-invariant-loop-k l = (l.k ≤ l.end) × (l.s ≡ fold l.k (λ j. widened (get_or (entries l.a) j nowhere)) zero_f)
-
-abbrev pub decreases-loop-k : goal.decreases-loop-k
-decreases-loop-k l = l.end - l.k
+invariant-loop-k l = l.s ≡ fold l.k (λ j. widened (get_or (entries l.a) j nowhere)) zero_f

@@ -1,4 +1,4 @@
-use Prim.Native.Nat.{◌≤◌, ◌-◌, ◌*◌}
+use Prim.Native.Nat.{◌*◌}
 use mathlib.Core.Path.{◌≡◌}
 use lib.ListN.{length}
 use Rattle.lists.proofs.Filling.{Filled}
@@ -6,7 +6,4 @@ use Rattle.matrix.proofs.Sums.{product_at}
 use Rattle.matrix.proofs.mat_mul_of.Given as goal
 
 abbrev pub invariant-loop-i : goal.invariant-loop-i
-invariant-loop-i l = (l.i ≤ l.n) × (length l.out ≡ length l.initial.out) × Filled (product_at l.n l.a l.b) l.initial.out (l.i * l.n) l.out
-
-abbrev pub decreases-loop-i : goal.decreases-loop-i
-decreases-loop-i l = l.n - l.i
+invariant-loop-i l = (length l.out ≡ length l.initial.out) × Filled (product_at l.n l.a l.b) l.initial.out (l.i * l.n) l.out

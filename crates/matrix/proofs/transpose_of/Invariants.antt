@@ -1,4 +1,4 @@
-use Prim.Native.Nat.{◌≤◌, ◌-◌, ◌*◌}
+use Prim.Native.Nat.{◌*◌}
 use mathlib.Core.Path.{◌≡◌}
 use lib.ListN.{length}
 use Rattle.lists.proofs.Filling.{Filled}
@@ -6,7 +6,4 @@ use Rattle.matrix.proofs.Transposes.{transposed_at}
 use Rattle.matrix.proofs.transpose_of.Given as goal
 
 abbrev pub invariant-loop-j : goal.invariant-loop-j
-invariant-loop-j l = (l.j ≤ l.n) × (length l.out ≡ length l.initial.out) × Filled (transposed_at l.n l.a) l.initial.out (l.j * l.n) l.out
-
-abbrev pub decreases-loop-j : goal.decreases-loop-j
-decreases-loop-j l = l.n - l.j
+invariant-loop-j l = (length l.out ≡ length l.initial.out) × Filled (transposed_at l.n l.a) l.initial.out (l.j * l.n) l.out

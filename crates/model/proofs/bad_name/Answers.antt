@@ -1,16 +1,14 @@
-use mathlib.Core.Path.{ap, ap₂}
-use native.Mathlib.Omega.{arith}
-use Prim.Native.Nat.{ℕ}
-use lib.Dec.{eqb}
-use Rattle.model.proofs.Tests.{any_none, any-more, any-end}
-use borrow.Author.Rules.{rules}
+use Rattle.std.proofs.Common.{ℕ, eqb, refl, rules, tests, arith, ap, ap₂, ◌∙◌, ◌||◌}
+use Rattle.std.proofs.lemmas.Iterator.{YieldsList-from_range}
+use Rattle.std.proofs.lemmas.Iterator.Search.{any_from_yields_List}
+use Rattle.model.proofs.Tests.{any-range, any-apart}
 use Rattle.model.proofs.bad_name.Goals as goal
 
-pub loop-j-init : goal.loop-j-init
-loop-j-init c = (search rules, any_none _ _ _ (ap (λ (x : ℕ). eqb x 0) c.name_of-name.ensures))
-
-pub loop-j-preserved : goal.loop-j-preserved
-loop-j-preserved c = (search rules, any-more _ _ _ _ _ _ c.loop-j.invariant.1 c.either-bad.ensures (ap₂ eqb c.name_of.ensures c.name_of-name.ensures))
-
 pub returns : goal.returns
-returns c = any-end _ _ _ _ _ (omega arith) c.loop-j.invariant.1
+returns g c =
+    let m = g.M.Tested.parts c.args.m.now in
+    let n = c.args.g in
+    ap₂ ◌||◌ (ap (λ (w : ℕ). eqb w 0) c.name-name.ensures)
+    (any_from_yields_List (λ j. eqb (m.name j) (m.name n)) _ _ _ c.any.ensures.ran (YieldsList-from_range 0 n n refl (omega arith)) (λ x b q k. search (rules, tests))
+    ∙ any-range n _)
+    ∙ any-apart _ n _

@@ -1,14 +1,12 @@
-use mathlib.Core.Path.{refl}
-use native.Mathlib.Omega.{arith}
-use Rattle.model.proofs.Tests.{any_none, any-more, any-end}
-use borrow.Author.Rules.{rules}
+use Rattle.std.proofs.Common.{refl, rules, tests, arith, ◌∙◌}
+use Rattle.std.proofs.lemmas.Iterator.{YieldsList-from_range}
+use Rattle.std.proofs.lemmas.Iterator.Search.{any_from_yields_List}
+use Rattle.model.specs.Checked.{bad_name}
+use Rattle.model.proofs.Tests.{any-range}
 use Rattle.model.proofs.bad_names.Goals as goal
 
-pub loop-g-init : goal.loop-g-init
-loop-g-init c = (search rules, any_none _ _ _ refl)
-
-pub loop-g-preserved : goal.loop-g-preserved
-loop-g-preserved c = (search rules, any-more _ _ _ _ _ _ c.loop-g.invariant.1 c.either-bad.ensures c.bad_name.ensures)
-
 pub returns : goal.returns
-returns c = any-end _ _ _ _ _ (omega arith) c.loop-g.invariant.1
+returns g c =
+    let m = g.M.Tested.parts c.args.m.now in
+    any_from_yields_List (bad_name m.name) _ _ _ c.any.ensures.ran (YieldsList-from_range 0 _ m.gates refl (omega (arith, c.gates.ensures))) (λ x b q k. search (rules, tests))
+    ∙ any-range m.gates _

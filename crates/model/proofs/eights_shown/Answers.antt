@@ -1,28 +1,12 @@
-use Prim.Native.Nat.{ℕ, ◌*◌}
-use mathlib.Core.Path.{◌≡◌, sym, ap, ◌∙◌}
-use mathlib.Core.Bool.{true}
-use native.Mathlib.Omega.{arith}
-use Rattle.numbers.specs.Slice.{all_finite, numbers_at}
-use Rattle.numbers.proofs.Leaves.{clash}
-use Rattle.model.proofs.Fours.{run_none, run_on}
-use borrow.Author.Rules.{rules}
+use Rattle.std.proofs.Common.{◌+◌, ◌*◌, refl, sym, rules, tests, arith, ◌∙◌}
+use Rattle.std.proofs.lemmas.Iterator.{YieldsList-from_range}
+use Rattle.std.proofs.lemmas.Iterator.Search.{all_from_yields_List}
+use Rattle.model.specs.Shown.{eight_shown}
+use Rattle.model.proofs.Shown.{eights-shown}
 use Rattle.model.proofs.eights_shown.Goals as goal
-
-pub loop-i-init : goal.loop-i-init
-loop-i-init c = (search rules, sym (run_none c.args.card.now c.args.from))
-
-pub returns-then-not-eight_shown : goal.returns-then-not-eight_shown
-returns-then-not-eight_shown c = λ h. clash h
-
-pub loop-i-preserved : goal.loop-i-preserved
-loop-i-preserved c =
-    let l = c.loop-i in
-    let z = c.args in
-    let i = l.i in
-    (search rules, run_on z.card.now z.from (i * 8) 8 _ true (omega arith) (sym l.invariant.1) (c.eight_shown.ensures (c.if-not-eight_shown.false)))
 
 pub returns : goal.returns
 returns c =
-    let z = c.args in
-    let k : c.loop-i.i ≡ z.count = omega arith in
-    λ _. c.loop-i.invariant.1 ∙ ap (λ (i : ℕ). all_finite (numbers_at z.card.now z.from (i * 8))) k
+    let a = c.args in
+    let l = all_from_yields_List (λ i. eight_shown a.card.now (a.from + i * 8)) _ _ c.all.result c.all.ensures.ran (YieldsList-from_range 0 a.count a.count refl (omega arith)) (λ x b q k. search (rules, tests)) in
+    λ h. eights-shown a.card.now (λ i. omega (arith, c.type_inv.card i)) a.from a.count (sym l ∙ h)

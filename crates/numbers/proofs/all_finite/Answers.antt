@@ -1,16 +1,13 @@
-use mathlib.Core.Path.{refl}
-use native.Mathlib.Omega.{arith}
-use Rattle.numbers.proofs.Finite.{finite-more, finite-all}
-use borrow.Author.Rules.{rules}
+use mathlib.Core.Bool.{true, ◌&&◌}
+use mathlib.Core.Path.{◌≡◌, ◌∙◌}
+use Rattle.std.specs.List.{fold}
+use Rattle.std.proofs.Common.{rules}
+use Rattle.std.proofs.lemmas.Grind.{common_steps}
+use Rattle.numbers.specs.Number.{finite}
+use Rattle.numbers.proofs.Finite.{all-chained}
 use Rattle.numbers.proofs.all_finite.Goals as goal
 
-pub loop-i-init : goal.loop-i-init
-loop-i-init c = (search rules, refl)
-
-pub loop-i-preserved : goal.loop-i-preserved
-loop-i-preserved c =
-    let l = c.loop-i in
-    (search rules, finite-more _ l.i l.all _ _ (search rules) c.both-all.ensures c.is_finite.ensures l.invariant.1)
-
 pub returns : goal.returns
-returns c = finite-all c.args.xs.now c.loop-i.i _ (omega arith) c.loop-i.invariant.1
+returns c =
+    let e : c.fold.result ≡ fold (λ b x. b && finite x) true c.args.xs.now = search (rules, common_steps) in
+    e ∙ all-chained true c.args.xs.now

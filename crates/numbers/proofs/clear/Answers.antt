@@ -1,16 +1,8 @@
-use mathlib.Core.Path.{refl}
-use native.Mathlib.Omega.{arith}
-use Rattle.lists.proofs.Filling.{fill_none, fill_more, fill-all}
+use mathlib.Core.Path.{◌∙◌}
+use Rattle.lists.proofs.Chains.{build-replicate}
 use Rattle.numbers.specs.Slice.{blank}
-use borrow.Author.Rules.{rules}
 use Rattle.numbers.proofs.clear.Goals as goal
-
-pub loop-i-init : goal.loop-i-init
-loop-i-init c = (search rules, search rules, fill_none _ _)
-
-pub loop-i-preserved : goal.loop-i-preserved
-loop-i-preserved c = (search rules, search rules, fill_more _ _ _ _ _ (search rules) c.loop-i.invariant.2 refl)
 
 pub returns : goal.returns
 unfolding blank
-returns c = fill-all _ _ _ _ (omega arith) c.loop-i.invariant.2
+returns c = c.fill.ensures.after (λ y e. e) ∙ build-replicate _ _

@@ -1,7 +1,6 @@
-use lib.Ieee.{of_bits}
-use Rattle.numbers.proofs.Vanishing.{finite-test}
+use Rattle.numbers.proofs.Leaves.{finite_std}
+use mathlib.Core.Path.{◌∙◌}
 use Rattle.numbers.proofs.is_finite.Goals as goal
 
 pub returns : goal.returns
-unfolding of_bits
-returns c = finite-test c.args.x
+returns c = c.is_finite.ensures.value ∙ finite_std _

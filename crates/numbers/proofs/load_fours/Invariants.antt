@@ -1,12 +1,7 @@
-use Prim.Native.Nat.{◌≤◌, ◌-◌, ◌*◌, ◌+◌}
-use mathlib.Core.Path.{◌≡◌}
-use lib.ListN.{length}
+use Prim.Native.Nat.{◌*◌, ◌+◌}
 use Rattle.lists.proofs.Filling.{Filled}
 use Rattle.numbers.specs.Slice.{number_at}
 use Rattle.numbers.proofs.load_fours.Given as goal
 
 abbrev pub invariant-loop-i : goal.invariant-loop-i
-invariant-loop-i l = (l.i ≤ l.count) × (length l.out ≡ length l.initial.out) × Filled (λ k. number_at l.card (l.from + k)) l.initial.out (l.i * 4) l.out
-
-abbrev pub decreases-loop-i : goal.decreases-loop-i
-decreases-loop-i l = l.count - l.i
+invariant-loop-i l = Filled (λ k. number_at l.card (l.from + k)) l.initial.out (l.i * 4) l.out

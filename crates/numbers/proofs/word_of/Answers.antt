@@ -1,11 +1,8 @@
 use mathlib.Core.Path.{sym, ap}
 use lib.Ieee.{binary64, to_bits}
-use Rattle.numbers.proofs.Leaves.{nan-test, nan-pass}
+use Rattle.numbers.proofs.Leaves.{only_nan}
 use Rattle.numbers.proofs.word_of.Goals as goal
 
-pub float_to_bits-result : goal.float_to_bits-result
-float_to_bits-result c = nan-pass _ c.if-x.false
-
-pub returns-then-x : goal.returns-then-x
+pub returns-then-is_nan : goal.returns-then-is_nan
 unfolding to_bits
-returns-then-x c = sym (ap (to_bits binary64) (nan-test _ c.if-x.true))
+returns-then-is_nan c = sym (ap (to_bits binary64) (only_nan _ (sym c.if-is_nan.ensures.value)))

@@ -1,18 +1,22 @@
-use mathlib.Core.Path.{sym, ap, ◌∙◌}
-use lib.Ieee.{of_bits}
+use Prim.Native.Nat.{min}
+use mathlib.Core.Path.{◌≡◌, ap, ◌∙◌}
+use native.Mathlib.Omega.{arith}
+use lib.Ieee.{nan, neg, of_bits}
 use lib.ListN.{length}
+use Rattle.lists.proofs.Chains.{fold-zip}
+use Rattle.numbers.specs.Number.{minus_zero_f}
 use Rattle.numbers.specs.Slice.{at}
+use Rattle.matrix.specs.Product.{sum_of}
 use Rattle.model_words.specs.Words.{numbers_of}
-use Rattle.objective.specs.Job.{job_by}
+use Rattle.objective.specs.Tasks.{job_in}
 use Rattle.objective.proofs.Maps.{length-map}
 use Rattle.objective.proofs.Distances.{objective-by}
 use Rattle.objective.proofs.objective.Goals as goal
 
-pub distance-requires : goal.distance-requires
-distance-requires c =
-    c.requires.1 ∙ sym (ap length c.requires.0 ∙ length-map (at (numbers_of c.args.card.now c.args.h)) c.args.places.now)
-
 pub returns : goal.returns
-unfolding of_bits
+unfolding neg of_bits sum_of
 returns c =
-    objective-by (job_by c.args.card.now c.args.h c.args.places.now c.args.c) c.args.likely _ _ _ c.requires.0 c.requires.1 c.distance.ensures
+    let t = c.args.t.now in
+    let xs = c.args.xs.now in
+    let n : min (length xs) (length t.anchor.now) ≡ length xs = omega (arith, ap length t.anchored, length-map (at (numbers_of t.card.now.bytes.now t.card.now.header)) t.places.now, c.requires) in
+    objective-by (job_in t) c.args.likely _ xs t.anchor.now t.anchored c.requires (c.with_distances.ensures ∙ fold-zip _ minus_zero_f nan nan (length xs) xs t.anchor.now n)

@@ -1,19 +1,21 @@
-use mathlib.Core.Path.{ap, ◌∙◌}
-use native.Mathlib.Omega.{arith}
-use Rattle.lists.proofs.Folding.{fold-none, fold_more, fold_end}
-use Rattle.refusal.specs.Verdicts.{first_of}
+use Rattle.std.proofs.Common.{sym, arith}
+use Rattle.std.proofs.lemmas.Result.{err_from_is_err_and}
+use Rattle.refusal.proofs.Verdicts.{tested-none, tested-more, tested-ends, tested-all}
 use Rattle.parameters.specs.Parameters.{parameters_verdict}
-use borrow.Author.Rules.{rules}
 use Rattle.parameters.proofs.check_parameters.Goals as goal
 
 pub loop-i-init : goal.loop-i-init
-loop-i-init c = (search rules, fold-none _ _)
+loop-i-init c = tested-none _
+
+pub returns-in_err-check_parameter : goal.returns-in_err-check_parameter
+unfolding parameters_verdict
+returns-in_err-check_parameter c =
+    let q = err_from_is_err_and c.from_residual.result c.from_residual.ensures.1 in
+    rw (q.1, q.2) (sym (tested-ends _ _ c.loop-i.i _ (omega arith) c.loop-i.invariant (sym c.in_err-check_parameter.ensures)))
 
 pub loop-i-preserved : goal.loop-i-preserved
-loop-i-preserved c =
-    let l = c.loop-i in
-    (search rules, fold_more _ _ _ _ _ l.invariant.1 (c.first_of-found.ensures ∙ ap (first_of l.found) c.check_parameter.ensures))
+loop-i-preserved c = tested-more _ _ c.loop-i.invariant (sym c.in_ok-check_parameter.ensures)
 
 pub returns : goal.returns
 unfolding parameters_verdict
-returns c = fold_end _ _ _ _ _ (omega arith) c.loop-i.invariant.1
+returns c = tested-all _ _ _ (omega arith) c.loop-i.invariant

@@ -1,4 +1,3 @@
-use Prim.Native.Nat.{◌≤◌, ◌-◌}
 use mathlib.Core.Path.{◌≡◌}
 use mathlib.Core.Bool.{false}
 use lib.Dec.{eqb}
@@ -8,7 +7,4 @@ use Rattle.model.specs.Checked.{any_of}
 use Rattle.parameters.proofs.is_repeated.Given as goal
 
 abbrev pub invariant-loop-j : goal.invariant-loop-j
-invariant-loop-j l = (l.j ≤ l.i) × (l.seen ≡ any_of false l.j (λ m. eqb (word_at l.card (coordinate_at l.h m)) (word_at l.card (coordinate_at l.h l.i))))
-
-abbrev pub decreases-loop-j : goal.decreases-loop-j
-decreases-loop-j l = l.i - l.j
+invariant-loop-j l = l.seen ≡ any_of false l.j (λ m. eqb (word_at l.card (coordinate_at l.h m)) (word_at l.card (coordinate_at l.h l.i)))

@@ -1,13 +1,19 @@
-use mathlib.Core.Path.{sym, ap, ◌∙◌}
+use Prim.Native.Nat.{ℕ}
+use mathlib.Core.Path.{◌≡◌, sym, ap, ◌∙◌}
+use mathlib.Core.List.{List, ◌++◌}
 use native.Mathlib.Omega.{arith}
-use Rattle.lists.proofs.Filling.{fill_none, fill_more, fill_end, over-build}
+use lib.ListN.{length, take, drop}
+use lib.Seq.{length-take-le}
+use Rattle.lists.specs.Build.{build}
+use Rattle.lists.proofs.Filling.{fill_none, fill_more, fill-all, over-build}
+use Rattle.card_parts.specs.Parts.{coordinate_in}
 use Rattle.parameters.specs.Parameters.{place_of, places_of}
 use Rattle.parameters.proofs.Fields.{fields}
 use borrow.Author.Rules.{rules}
 use Rattle.parameters.proofs.load_places.Goals as goal
 
 pub loop-i-init : goal.loop-i-init
-loop-i-init c = (search rules, search rules, fill_none _ _)
+loop-i-init c = fill_none _ _
 
 pub place_of-requires : goal.place_of-requires
 place_of-requires c =
@@ -15,8 +21,13 @@ place_of-requires c =
     (c.requires.0.limits, f.0, f.1, f.2)
 
 pub loop-i-preserved : goal.loop-i-preserved
-loop-i-preserved c = (search rules, search rules, fill_more _ _ _ _ _ (search rules) c.loop-i.invariant.2 (c.place_of.ensures ∙ ap (place_of c.args.h) c.coordinate_in.ensures))
+loop-i-preserved c = fill_more _ _ _ _ _ (omega arith) c.loop-i.invariant (c.place_of.ensures ∙ ap (place_of c.args.h) c.coordinate_in.ensures)
 
 pub returns : goal.returns
 unfolding places_of
-returns c = fill_end _ _ _ _ _ (omega arith) c.loop-i.invariant.2 ∙ sym (over-build _ _ _)
+returns c =
+    let a = c.args in
+    let k : length (take a.h.coordinates a.out.now) ≡ a.h.coordinates = length-take-le _ _ (search rules) in
+    ap (λ (l : List ℕ). l ++ drop a.h.coordinates a.out.now)
+    (fill-all _ _ _ _ (omega arith) c.loop-i.invariant ∙ ap (λ (m : ℕ). build m (λ j. place_of a.h (coordinate_in a.card.now a.h j))) k)
+    ∙ sym (over-build _ _ _)

@@ -8,6 +8,6 @@ pub returns-then-k-eq0 : goal.returns-then-k-eq0
 unfolding unit_at
 returns-then-k-eq0 c = yes _ (eq-eqb _ _ c.if-k-eq0.true)
 
-pub returns : goal.returns
+pub returns-else-k-eq0 : goal.returns-else-k-eq0
 unfolding unit_at
-returns c = no _ (ne_eqb _ _ c.if-k-eq0.false) refl
+returns-else-k-eq0 c = no _ (ne_eqb _ _ c.if-k-eq0.false) refl

@@ -15,8 +15,8 @@ loop-t-preserved c =
     let l = c.loop-t in
     let size-at2 = c.size_at-x.ensures in
     let stays-largest = c.stays_largest-keep in
-    let h = c.picked_row-p.ensures in
-    (search rules, either-below _ l.p (a.k + l.t) stays-largest.result _ l.invariant.1 (omega arith) h, size-picked a.w a.k a.work.now l.p (a.k + l.t) _ _ stays-largest.result _ _ l.invariant.2 size-at2 h c.picked_size-size.ensures, fold_more _ _ _ _ _ l.invariant.3 (row-picked a.w a.k a.work.now l.p (a.k + l.t) _ _ stays-largest.result _ l.invariant.2 size-at2 stays-largest.ensures h))
+    let h = c.chosen-p.ensures in
+    (search rules, either-below _ l.p (a.k + l.t) stays-largest.result _ l.invariant.1 (omega arith) h, size-picked a.w a.k a.work.now l.p (a.k + l.t) _ _ stays-largest.result _ _ l.invariant.2 size-at2 h c.chosen-size.ensures, fold_more _ _ _ _ _ l.invariant.3 (row-picked a.w a.k a.work.now l.p (a.k + l.t) _ _ stays-largest.result _ l.invariant.2 size-at2 stays-largest.ensures h))
 
 pub returns : goal.returns
 unfolding pivot_row

@@ -1,4 +1,4 @@
-use Prim.Native.Nat.{◌≤◌, ◌-◌, ◌+◌, ◌<◌}
+use Prim.Native.Nat.{◌≤◌, ◌+◌, ◌<◌}
 use mathlib.Core.Path.{◌≡◌}
 use Rattle.lists.specs.Fold.{fold}
 use Rattle.pivots.specs.Pivots.{larger_row}
@@ -7,6 +7,3 @@ use Rattle.pivots.proofs.pivot_row.Given as goal
 
 abbrev pub invariant-loop-t : goal.invariant-loop-t
 invariant-loop-t l = (l.t ≤ l.m) × (l.p < l.n) × (l.size ≡ magnitude_at l.w l.k l.work l.p) × (l.p ≡ fold l.t (λ q j. larger_row l.w l.k l.work j (l.k + q)) l.k)
-
-abbrev pub decreases-loop-t : goal.decreases-loop-t
-decreases-loop-t l = l.m - l.t

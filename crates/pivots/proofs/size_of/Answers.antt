@@ -8,6 +8,6 @@ pub returns-then-x : goal.returns-then-x
 unfolding magnitude of_bits
 returns-then-x c = yes _ c.if-x.true
 
-pub returns : goal.returns
+pub returns-else-x : goal.returns-else-x
 unfolding magnitude of_bits
-returns c = no _ c.if-x.false refl
+returns-else-x c = no _ c.if-x.false refl

@@ -1,16 +1,17 @@
-use Rattle.positivity.specs.Positivity.{none_below}
-use Rattle.lists.proofs.Folding.{fold-none, fold_more, fold_end}
-use native.Mathlib.Omega.{arith}
-use mathlib.Core.Bool.{true}
+use mathlib.Core.Bool.{true, ◌&&◌}
+use mathlib.Core.Path.{◌≡◌, ◌∙◌}
+use lib.Ieee.{le, nan}
 use borrow.Author.Rules.{rules}
+use Rattle.std.specs.List.{fold}
+use Rattle.std.proofs.lemmas.Grind.{common_steps}
+use Rattle.lists.proofs.Chains.{fold-list}
+use Rattle.positivity.specs.Positivity.{none_below}
 use Rattle.positivity.proofs.none_below.Goals as goal
-
-pub loop-k-init : goal.loop-k-init
-loop-k-init c = (search rules, fold-none _ true)
-
-pub loop-k-preserved : goal.loop-k-preserved
-loop-k-preserved c = (search rules, fold_more _ _ _ _ _ c.loop-k.invariant.1 c.both-good.ensures)
 
 pub returns : goal.returns
 unfolding none_below
-returns c = fold_end _ _ _ _ _ (omega arith) c.loop-k.invariant.1
+returns c =
+    let b = c.args.bound in
+    let w = c.args.w.now in
+    let e : c.fold.result ≡ fold (λ m x. m && le b x) true w = search (rules, common_steps) in
+    e ∙ fold-list (λ m x. m && le b x) true nan w

@@ -1,11 +1,11 @@
-use mathlib.Core.Path.{refl}
+use mathlib.Core.Path.{refl, ◌∙◌}
 use native.Mathlib.Omega.{arith}
 use Rattle.numbers.proofs.Leaves.{no-nan-word}
-use Rattle.root.proofs.Cases.{whole-root}
+use Rattle.root.proofs.Cases.{whole-root, doubled}
 use Rattle.root.proofs.root_of.Goals as goal
 
 pub float_from_bits-result : goal.float_from_bits-result
 float_from_bits-result c = no-nan-word _ (omega arith)
 
 pub returns : goal.returns
-returns c = whole-root _ _ _ _ _ c.near_root-p.ensures.is c.scaled.ensures.0 refl (omega arith) c.near_root-p.ensures.low c.near_root-p.ensures.high
+returns c = let p = c.near_root-p.ensures in whole-root _ _ _ _ _ p.is (c.scaled.ensures.0 ∙ doubled _ _) refl (omega arith) p.low p.high

@@ -2,8 +2,8 @@ use Prim.Native.Nat.{◌-◌}
 use Rattle.root.specs.Search.{Brackets}
 use Rattle.root.proofs.searched_root.Given as goal
 
-abbrev pub invariant-loop-hi : goal.invariant-loop-hi
-invariant-loop-hi l = Brackets l.m l.lo l.hi
+abbrev pub invariant-loop-b : goal.invariant-loop-b
+invariant-loop-b l = Brackets l.m l.b.lo l.b.hi
 
-abbrev pub decreases-loop-hi : goal.decreases-loop-hi
-decreases-loop-hi l = l.hi - l.lo
+abbrev pub decreases-loop-b : goal.decreases-loop-b
+decreases-loop-b l = l.b.hi - l.b.lo

@@ -1,67 +1,53 @@
-use mathlib.Core.Path.{◌∙◌}
+use mathlib.Core.Path.{refl, ap, ◌∙◌}
+use Rattle.std.proofs.Common.{Ok, Option}
 use native.Mathlib.Omega.{arith}
-use lib.Ieee.{of_bits}
-use Rattle.objective.specs.Job.{job_by}
-use Rattle.objective.proofs.Lending.{lent-on}
-use Rattle.search.proofs.Trials.{length-first, length-halved, trial-by, search-none, search-on, search-found, search-lost, found_at, search-all}
-use borrow.Author.Rules.{rules}
+use lib.Ieee.{Float, of_bits}
+use Rattle.std.proofs.lemmas.Result.{err_from_is_err_and}
+use Rattle.objective.specs.Tasks.{job_in}
+use Rattle.search.proofs.Trials.{length-first, length-halved, trial-by, search-none, search-found, search-lost, search-passed, search-on, search-all}
+use Rattle.search.proofs.search.Goals.{in-Some+else-v-o, in_default}
 use Rattle.search.proofs.search.Goals as goal
 
 pub loop-k-init : goal.loop-k-init
 loop-k-init c =
     let a = c.args in
-    let J = job_by a.card.now a.h a.places.now a.c in
-    (search rules, search rules, search rules, search rules, length-first J, search-none J a.xs.now a.g.now a.o)
+    let J = job_in a.task.now in
+    (refl, length-first J, search-none J a.xs.now a.g.now a.o)
 
-pub evaluate-e-requires : goal.evaluate-e-requires
-evaluate-e-requires c =
-    (lent-on _ _ c.requires.0 (search rules) (search rules), search rules)
+pub returns-in_err-v : goal.returns-in_err-v
+returns-in_err-v c =
+    let a = c.args in
+    let l = c.loop-k in
+    let J = job_in a.task.now in
+    let t = trial-by J a.xs.now a.g.now l.k _ l.s _ (omega arith) l.invariant.1 c.trial.ensures in
+    let q = err_from_is_err_and c.from_residual.result c.from_residual.ensures.1 in
+    rw (q.1, q.2) (search-lost J a.xs.now a.g.now a.o l.k _ _ l.invariant.2 t refl a.task.now.config.max_backtracks c.loop-k-test.true _ c.in_err-v.ensures, tt)
+
+pub returns-then-v-o : goal.returns-then-v-o
+returns-then-v-o c =
+    let a = c.args in
+    let l = c.loop-k in
+    let J = job_in a.task.now in
+    let t = trial-by J a.xs.now a.g.now l.k _ l.s _ (omega arith) l.invariant.1 c.trial.ensures in
+    (search-found J a.xs.now a.g.now a.o l.k _ _ l.invariant.2 t c.in_ok-v.ensures a.task.now.config.max_backtracks c.loop-k-test.true _ (ap (λ (x : Option Float). Ok x) c.in-Some.is) c.if-v-o.true, (t, c.loop-k-test.true))
 
 pub loop-k-preserved : goal.loop-k-preserved
 unfolding of_bits
 loop-k-preserved c =
-    let trial = c.trial in
+    let a = c.args in
     let l = c.loop-k in
-    let J = job_by c.args.card.now c.args.h c.args.places.now c.args.c in
-    let t = trial-by J c.args.xs.now c.args.g.now l.k _ l.s _ (l.invariant.1 ∙ c.requires.3) l.invariant.4 trial.ensures in (
-      omega (arith, c.loop-k-test.true),
-      trial.auto.t ∙ l.invariant.1,
-      search rules,
-      search rules,
-      length-halved J l.k l.s l.invariant.4,
-      search-on J c.args.xs.now c.args.g.now c.args.o l.k _ _ _ l.invariant.5 t c.evaluate-e.ensures.0 c.judge-found.ensures c.in-Searching.is,
-    )
-
-pub returns-in-Found : goal.returns-in-Found
-returns-in-Found c =
-    let loop-test = c.loop-k-test.true in
-    let evaluate = c.evaluate-e.ensures in
-    let judge = c.judge-found.ensures in
-    let l = c.loop-k in
-    let J = job_by c.args.card.now c.args.h c.args.places.now c.args.c in
-    let t = trial-by J c.args.xs.now c.args.g.now l.k _ l.s _ (l.invariant.1 ∙ c.requires.3) l.invariant.4 c.trial.ensures in (
-      search-found J c.args.xs.now c.args.g.now c.args.o l.k _ _ _ l.invariant.5 t evaluate.0 judge c.args.c.max_backtracks loop-test c.in-Found.is,
-      found_at J c.args.xs.now c.args.g.now c.args.o l.k _ _ _ l.invariant.5 t evaluate.0 judge loop-test,
-      search rules,
-      search rules,
-    )
-
-pub returns-in-Lost : goal.returns-in-Lost
-returns-in-Lost c =
-    let loop-test = c.loop-k-test.true in
-    let evaluate = c.evaluate-e.ensures in
-    let judge = c.judge-found.ensures in
-    let l = c.loop-k in
-    let J = job_by c.args.card.now c.args.h c.args.places.now c.args.c in
-    let t = trial-by J c.args.xs.now c.args.g.now l.k _ l.s _ (l.invariant.1 ∙ c.requires.3) l.invariant.4 c.trial.ensures in (
-      search-lost J c.args.xs.now c.args.g.now c.args.o l.k _ _ _ l.invariant.5 t evaluate.0 judge c.args.c.max_backtracks loop-test c.in-Lost.is,
-      found_at J c.args.xs.now c.args.g.now c.args.o l.k _ _ _ l.invariant.5 t evaluate.0 judge loop-test,
-      search rules,
-      search rules,
+    let J = job_in a.task.now in
+    let t = trial-by J a.xs.now a.g.now l.k _ l.s _ (omega arith) l.invariant.1 c.trial.ensures in (
+      c.trial.auto.t ∙ l.invariant.0,
+      length-halved J l.k l.s l.invariant.1,
+      elim c.match-branch-2.branch [
+        | in-Some+else-v-o w ↦ search-on J a.xs.now a.g.now a.o l.k _ _ l.invariant.2 t c.in_ok-v.ensures _ (ap (λ (x : Option Float). Ok x) w.in-Some.is) w.if-v-o.false
+        | in_default w ↦ search-passed J a.xs.now a.g.now a.o l.k _ _ l.invariant.2 t c.in_ok-v.ensures (ap (λ (x : Option Float). Ok x) w.in_default.is)
+      ],
     )
 
 pub returns : goal.returns
 returns c =
     let l = c.loop-k in
     let a = c.args in
-    (search-all (job_by a.card.now a.h a.places.now a.c) a.xs.now a.g.now a.o l.k a.c.max_backtracks (omega arith) l.invariant.5, tt, search rules, search rules)
+    (search-all (job_in a.task.now) a.xs.now a.g.now a.o l.k a.task.now.config.max_backtracks (omega arith) l.invariant.2, tt)

@@ -1,14 +1,13 @@
 use mathlib.Core.Path.{refl}
 use native.Mathlib.Omega.{arith}
 use Rattle.lists.proofs.Filling.{fill_none, fill_more, fill-all}
-use borrow.Author.Rules.{rules}
 use Rattle.search.proofs.trial.Goals as goal
 
 pub loop-i-init : goal.loop-i-init
-loop-i-init c = (search rules, search rules, fill_none _ _)
+loop-i-init c = fill_none _ _
 
 pub loop-i-preserved : goal.loop-i-preserved
-loop-i-preserved c = (search rules, search rules, fill_more _ _ _ _ _ (search rules) c.loop-i.invariant.2 refl)
+loop-i-preserved c = fill_more _ _ _ _ _ (omega arith) c.loop-i.invariant refl
 
 pub returns : goal.returns
-returns c = fill-all _ _ _ _ (omega arith) c.loop-i.invariant.2
+returns c = fill-all _ _ _ _ (omega arith) c.loop-i.invariant

@@ -1,13 +1,7 @@
-use Prim.Native.Nat.{◌≤◌, ◌-◌}
-use mathlib.Core.Path.{◌≡◌}
-use lib.ListN.{length}
 use Rattle.lists.proofs.Filling.{Filled}
 use Rattle.numbers.specs.Number.{◌-ᶠ◌, ◌*ᶠ◌}
 use Rattle.numbers.specs.Slice.{at}
 use Rattle.search.proofs.trial.Given as goal
 
 abbrev pub invariant-loop-i : goal.invariant-loop-i
-invariant-loop-i l = (l.i ≤ l.n) × (length l.t ≡ length l.initial.t) × Filled (λ j. at l.xs j -ᶠ l.s *ᶠ at l.g j) l.initial.t l.i l.t
-
-abbrev pub decreases-loop-i : goal.decreases-loop-i
-decreases-loop-i l = l.n - l.i
+invariant-loop-i l = Filled (λ j. at l.xs j -ᶠ l.s *ᶠ at l.g j) l.initial.t l.i l.t

@@ -14,7 +14,7 @@ use Rattle.sheets.proofs.invert_process.Goals as goal
 pub load-requires : goal.load-requires
 load-requires c =
     let square = c.square-count.ensures in
-    (omega (arith, square.0, c.requires.2), omega (arith, square.0, square-most c.args.p c.requires.1, c.vectors_room-vectors.ensures))
+    (omega (arith, square.0, c.requires.2), omega (arith, square.0, square-most c.args.p c.requires.1))
 
 pub slice_bounds-vectors-end : goal.slice_bounds-vectors-end
 slice_bounds-vectors-end c =

@@ -13,7 +13,7 @@ load-requires c =
     let square = c.square-count.ensures in
     let s = c.requires in
     let q = ap₂ ◌*◌ four-to.0 four-to.0 in
-    (omega (arith, s.2, square.0, q), omega (arith, c.transfer_room-transfer.ensures, square.0, q, transfer-most _ s.1))
+    (omega (arith, s.2, square.0, q), omega (arith, square.0, q, transfer-most _ s.1))
 
 pub slice_bounds-transfer-end : goal.slice_bounds-transfer-end
 slice_bounds-transfer-end c = front_fits (numbers_at c.args.card.now 3 _) _ c.load.ensures (length-numbers _ _ _)

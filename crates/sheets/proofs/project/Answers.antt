@@ -10,11 +10,11 @@ use Rattle.sheets.proofs.project.Goals as goal
 pub load-requires : goal.load-requires
 load-requires c =
     let square = c.square-count.ensures in
-    (omega (arith, square.0, c.requires.2), omega (arith, square.0, c.estimate_room-estimate.ensures, estimate-most c.args.d c.requires.1))
+    (omega (arith, square.0, c.requires.2), omega (arith, square.0, estimate-most c.args.d c.requires.1))
 
 pub slice_bounds-estimate-end : goal.slice_bounds-estimate-end
 slice_bounds-estimate-end c =
-    omega (arith, c.square-count.ensures.0, estimate-most c.args.d c.requires.1, c.estimate_room-estimate.ensures)
+    omega (arith, c.square-count.ensures.0, estimate-most c.args.d c.requires.1)
 
 pub slice_bounds-project_density-end : goal.slice_bounds-project_density-end
 slice_bounds-project_density-end c =

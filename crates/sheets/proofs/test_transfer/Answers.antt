@@ -1,3 +1,4 @@
+use Rattle.std.proofs.lemmas.Result.{err_from_is_err_and}
 use Rattle.sheets.proofs.Shown.{physical-refused, physical-shown}
 use Rattle.sizes.proofs.Small.{four-some, four-most}
 use native.Mathlib.Omega.{arith}
@@ -14,8 +15,11 @@ pub is_unital-requires : goal.is_unital-requires
 is_unital-requires c =
     let s = c.requires in (omega (arith, four-most c.args.n s.1, s.2), omega (arith, s.3))
 
-pub returns-in-Refused : goal.returns-in-Refused
-returns-in-Refused c = physical-refused _ _ _ _ _ c.is_completely_positive-found.ensures _ c.in-Refused.is
+pub returns-in_err-completely_positive : goal.returns-in_err-completely_positive
+returns-in_err-completely_positive c =
+    let q = err_from_is_err_and c.from_residual.result c.from_residual.ensures.1 in
+    rw (q.1, q.2)
+    (physical-refused _ _ _ _ _ c.is_completely_positive.ensures _ c.in_err-completely_positive.was)
 
-pub returns-in-Known : goal.returns-in-Known
-returns-in-Known c = physical-shown _ _ _ _ _ c.is_completely_positive-found.ensures _ _ _ _ c.requires.2 c.in-Known.is c.is_trace_preserving.ensures c.is_unital.ensures
+pub returns : goal.returns
+returns c = physical-shown _ _ _ _ _ c.is_completely_positive.ensures _ _ _ _ c.requires.2 c.in_ok-completely_positive.was c.is_trace_preserving.ensures c.is_unital.ensures

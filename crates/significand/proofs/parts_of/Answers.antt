@@ -3,7 +3,7 @@ use native.Mathlib.Omega.{arith}
 use lib.Dec.{T}
 use Prim.Native.Nat.{◌%◌}
 use lib.Ieee.{binary64, to_bits}
-use Rattle.significand.proofs.Pattern.{none, no-units, no_nan, Shifted, is-shifted, of_zero, of_low, of-high}
+use Rattle.significand.proofs.Pattern.{no-units, no_nan, Shifted, is-shifted, of_zero, some, of_low, of-high}
 use Rattle.significand.proofs.parts_of.Goals as goal
 use Rattle.significand.proofs.parts_of.Goals.{Then-field-eq0}
 
@@ -11,7 +11,7 @@ shifted : (c : Then-field-eq0) → Shifted (to_bits binary64 c.args.x % 0x8000_0
 shifted c = is-shifted _ (subst T (sym c.well_formed.0.1) tt) (sym c.is_finite.ensures ∙ c.if-not-is_finite.false) c.if-w-eq0.false c.if-field-eq0.true
 
 pub returns-then-not-is_finite : goal.returns-then-not-is_finite
-returns-then-not-is_finite c = none _ (no-units _ (sym c.is_finite.ensures ∙ c.if-not-is_finite.true))
+returns-then-not-is_finite c = no-units _ (sym c.is_finite.ensures ∙ c.if-not-is_finite.true)
 
 pub float_to_bits-w : goal.float_to_bits-w
 float_to_bits-w c = no_nan _ (sym c.is_finite.ensures ∙ c.if-not-is_finite.false)
@@ -32,7 +32,15 @@ pub overflow_sub-result : goal.overflow_sub-result
 overflow_sub-result c = omega (arith, (shifted (goal.at.overflow_sub-result c).Then-field-eq0).most)
 
 pub returns-then-field-eq0 : goal.returns-then-field-eq0
-returns-then-field-eq0 c = of_low _ (subst T (sym c.well_formed.0.1) tt) (sym c.is_finite.ensures ∙ c.if-not-is_finite.false) c.if-w-eq0.false c.if-field-eq0.true
+returns-then-field-eq0 c =
+    let f = subst T (sym c.well_formed.0.1) tt in
+    let h = sym c.is_finite.ensures ∙ c.if-not-is_finite.false in
+    let p = of_low _ f h c.if-w-eq0.false c.if-field-eq0.true in
+    (some _ f h c.if-w-eq0.false, p.0, p.1)
 
 pub returns : goal.returns
-returns c = of-high _ (subst T (sym c.well_formed.0.1) tt) (sym c.is_finite.ensures ∙ c.if-not-is_finite.false) c.if-field-eq0.false
+returns c =
+    let f = subst T (sym c.well_formed.0.1) tt in
+    let h = sym c.is_finite.ensures ∙ c.if-not-is_finite.false in
+    let p = of-high _ f h c.if-field-eq0.false in
+    (some _ f h c.if-w-eq0.false, p.0, p.1)

@@ -5,6 +5,6 @@ pub returns-then-falling : goal.returns-then-falling
 unfolding before
 returns-then-falling c = rw c.if-falling.true c.comes_before.ensures
 
-pub returns : goal.returns
+pub returns-else-falling : goal.returns-else-falling
 unfolding before
-returns c = rw c.if-falling.false c.comes_before-2.ensures
+returns-else-falling c = rw c.if-falling.false c.comes_before-else-falling.ensures

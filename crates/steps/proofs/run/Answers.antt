@@ -1,73 +1,55 @@
 use mathlib.Core.Path.{sym, subst, ◌∙◌}
 use native.Mathlib.Omega.{arith}
 use lib.ListN.{length}
+use Rattle.std.proofs.lemmas.Result.{err_from_is_err_and}
 use Rattle.lists.proofs.Folding.{fold-none, fold_end}
-use Rattle.objective.specs.Job.{job_by}
-use Rattle.objective.proofs.Lending.{lent-on}
+use Rattle.objective.specs.Tasks.{job_in}
 use Rattle.steps.specs.Running.{point_of, Normed}
-use Rattle.steps.proofs.Runs.{run_more, run-ended}
-use borrow.Author.Rules.{rules}
+use Rattle.steps.proofs.Runs.{run_more, run-ended, run-refused}
 use Rattle.steps.proofs.run.Goals as goal
 
 pub loop-i-init : goal.loop-i-init
 loop-i-init c =
-    let J = job_by c.args.card.now c.args.h c.args.places.now c.args.c in
-    let r = c.args.start in (
-      search rules,
-      search rules,
-      search rules,
-      omega (arith, c.requires.4),
-      omega (arith, c.requires.3),
-      c.requires.5,
-      fold-none _ _,
-      subst (Normed J (point_of (length c.args.places.now) r) r.norm) (sym c.requires.6) tt,
-    )
+    let t = c.args.task.now in
+    let r = c.args.start in
+    (omega (arith, c.requires.1), omega (arith, c.requires.0), fold-none _ _, subst (Normed (job_in t) (point_of (length t.places.now) r) r.norm) (sym c.requires.2) tt)
 
-pub returns-then-not-is_going : goal.returns-then-not-is_going
-returns-then-not-is_going c =
+pub returns-then-is_some : goal.returns-then-is_some
+returns-then-is_some c =
     let l = c.loop-i in
-    let J = job_by c.args.card.now c.args.h c.args.places.now c.args.c in (
-      record {
-        state = run-ended J (length c.args.places.now) _ l.i l.r l.invariant.6 c.args.c.max_iterations l.invariant.0 (sym c.is_going.ensures ∙ c.if-not-is_going.true);
-        underway = record { steps = omega (arith, l.invariant.3, l.invariant.0, c.requires.2); evaluations = omega (arith, l.invariant.4, l.invariant.0, c.requires.2); room = l.invariant.5 };
-        normed = l.invariant.7;
-      },
-      search rules,
-      search rules,
-    )
+    let t = c.args.task.now in
+    record {
+      state = run-ended (job_in t) (length t.places.now) _ l.i l.r l.invariant.2 t.config.max_iterations (omega arith) (sym c.is_some.ensures ∙ c.if-is_some.true);
+      underway = record { steps = omega (arith, l.invariant.0, t.iterations); evaluations = omega (arith, l.invariant.1, t.iterations) };
+      normed = l.invariant.3;
+    }
 
-pub step-q-requires : goal.step-q-requires
-step-q-requires c =
-    let l = c.loop-i in (
-      lent-on _ _ c.requires.0 l.invariant.1 l.invariant.2,
-      c.requires.1,
-      record { steps = omega (arith, l.invariant.3, l.invariant.0, c.requires.2); evaluations = omega (arith, l.invariant.4, l.invariant.0, c.requires.2); room = l.invariant.5 },
-    )
+pub step-requires : goal.step-requires
+step-requires c =
+    let l = c.loop-i in
+    let t = c.args.task.now in
+    record { steps = omega (arith, l.invariant.0, t.iterations); evaluations = omega (arith, l.invariant.1, t.iterations) }
+
+pub returns-in_err-r : goal.returns-in_err-r
+returns-in_err-r c =
+    let l = c.loop-i in
+    let t = c.args.task.now in
+    let q = err_from_is_err_and c.from_residual.result c.from_residual.ensures.1 in
+    rw (q.1, q.2) (run-refused (job_in t) (length t.places.now) _ l.i l.r l.invariant.2 t.config.max_iterations _ (omega arith) (sym c.is_some.ensures ∙ c.if-is_some.false) c.in_err-r.ensures)
 
 pub loop-i-preserved : goal.loop-i-preserved
 loop-i-preserved c =
-    let step = c.step-q in
     let l = c.loop-i in
-    let q = step.ensures in
-    let J = job_by c.args.card.now c.args.h c.args.places.now c.args.c in (
-      omega (arith, c.loop-i-test.true),
-      search rules,
-      search rules,
-      omega (arith, q.steps, l.invariant.3),
-      omega (arith, q.evaluations, l.invariant.4),
-      q.room,
-      run_more J (length c.args.places.now) _ l.i l.r l.invariant.6 step.result (sym c.is_going.ensures ∙ c.if-not-is_going.false) q.state,
-      q.normed,
-    )
+    let t = c.args.task.now in
+    let f = c.in_ok-r.ensures in
+    (omega (arith, f.steps, l.invariant.0), omega (arith, f.evaluations, l.invariant.1), run_more (job_in t) (length t.places.now) _ l.i l.r l.invariant.2 _ (sym c.is_some.ensures ∙ c.if-is_some.false) f.state, f.normed)
 
 pub returns : goal.returns
 returns c =
-    let l = c.loop-i in (
-      record {
-        state = fold_end _ l.i c.args.c.max_iterations _ _ (omega arith) l.invariant.6;
-        underway = record { steps = omega (arith, l.invariant.3, l.invariant.0, c.requires.2); evaluations = omega (arith, l.invariant.4, l.invariant.0, c.requires.2); room = l.invariant.5 };
-        normed = l.invariant.7;
-      },
-      search rules,
-      search rules,
-    )
+    let l = c.loop-i in
+    let t = c.args.task.now in
+    record {
+      state = fold_end _ l.i t.config.max_iterations _ _ (omega arith) l.invariant.2;
+      underway = record { steps = omega (arith, l.invariant.0, t.iterations); evaluations = omega (arith, l.invariant.1, t.iterations) };
+      normed = l.invariant.3;
+    }

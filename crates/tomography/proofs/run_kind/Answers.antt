@@ -1,58 +1,106 @@
-use Rattle.tomography.proofs.Lengths.{model-kind}
-use Rattle.tomography.specs.Sheet.{kind_sheet}
-use Rattle.outcome.proofs.Outcomes.{same_outcome}
+use Rattle.std.proofs.Common.{◌≡◌, refl, arith}
+use Rattle.card_layout.proofs.EachKind.{number-is, not-other}
 use Rattle.card.proofs.Accepted.{accepted}
-use Rattle.lists.proofs.Choices.{yes, no}
-use borrow.Author.Tests.{eq-eqb, ne_eqb}
-use native.Mathlib.Omega.{arith}
-use mathlib.Core.Path.{refl}
+use Rattle.outcome.proofs.Outcomes.{same_outcome}
+use Rattle.gst_sheets.specs.Sheets.{diagnostics_sheet}
+use Rattle.fit_sheets.specs.Sheets.{fit_sheet}
+use Rattle.sheets.specs.Sheets.{density_sheet, projected_sheet, process_sheet, physical_sheet, gauge_sheet}
+use Rattle.tomography.specs.Sheet.{model_sheet, kind_sheet}
+use Rattle.tomography.proofs.Lengths.{diagnostics-long}
 use Rattle.tomography.proofs.run_kind.Goals as goal
 
 pub density_sheet-requires : goal.density_sheet-requires
 density_sheet-requires c =
-    let a_2 = c.args in
-    let a = (accepted a_2.card.now a_2.h c.requires.0).kind1 c.if-kind-eq1.true in
+    let k = number-is c.in-Ok-Density.ensures c.in-Ok-Density.field-0-is in
+    let a = (accepted c.args.card.now c.args.h c.requires.0).kind1 k in
     (a.few, omega (arith, a.words), c.requires.1, c.requires.2)
 
-pub returns-then-kind-eq1 : goal.returns-then-kind-eq1
+pub returns-in-Ok-Density : goal.returns-in-Ok-Density
 unfolding kind_sheet
-returns-then-kind-eq1 c = same_outcome (yes _ (eq-eqb _ _ c.if-kind-eq1.true)) c.density_sheet.ensures.0
+returns-in-Ok-Density c =
+    let k = number-is c.in-Ok-Density.ensures c.in-Ok-Density.field-0-is in
+    let e : density_sheet c.args.card.now c.args.h.qubits ≡ kind_sheet c.args.card.now c.args.h = rw k refl in
+    same_outcome e c.density_sheet.ensures.0
 
 pub projected_sheet-requires : goal.projected_sheet-requires
 projected_sheet-requires c =
-    let a_2 = c.args in
-    let a = (accepted a_2.card.now a_2.h c.requires.0).kind2 c.if-kind-eq2.true in
+    let k = number-is c.in-Ok-Projected.ensures c.in-Ok-Projected.field-0-is in
+    let a = (accepted c.args.card.now c.args.h c.requires.0).kind2 k in
     (a.some, a.few, omega (arith, a.words), c.requires.1, c.requires.2)
 
-pub returns-then-kind-eq2 : goal.returns-then-kind-eq2
+pub returns-in-Ok-Projected : goal.returns-in-Ok-Projected
 unfolding kind_sheet
-returns-then-kind-eq2 c = same_outcome (no _ (ne_eqb _ _ c.if-kind-eq1.false) (yes _ (eq-eqb _ _ c.if-kind-eq2.true))) c.projected_sheet.ensures.0
+returns-in-Ok-Projected c =
+    let k = number-is c.in-Ok-Projected.ensures c.in-Ok-Projected.field-0-is in
+    let e : projected_sheet c.args.card.now c.args.h.dimension ≡ kind_sheet c.args.card.now c.args.h = rw k refl in
+    same_outcome e c.projected_sheet.ensures.0
 
 pub process_sheet-requires : goal.process_sheet-requires
 process_sheet-requires c =
-    let a_2 = c.args in
-    let a = (accepted a_2.card.now a_2.h c.requires.0).kind3 c.if-kind-eq3.true in
+    let k = number-is c.in-Ok-Process.ensures c.in-Ok-Process.field-0-is in
+    let a = (accepted c.args.card.now c.args.h c.requires.0).kind3 k in
     (a.few, omega (arith, a.words), c.requires.1, c.requires.2)
 
-pub returns-then-kind-eq3 : goal.returns-then-kind-eq3
+pub returns-in-Ok-Process : goal.returns-in-Ok-Process
 unfolding kind_sheet
-returns-then-kind-eq3 c = same_outcome (no _ (ne_eqb _ _ c.if-kind-eq1.false) (no _ (ne_eqb _ _ c.if-kind-eq2.false) (yes _ (eq-eqb _ _ c.if-kind-eq3.true)))) c.process_sheet.ensures.0
+returns-in-Ok-Process c =
+    let k = number-is c.in-Ok-Process.ensures c.in-Ok-Process.field-0-is in
+    let e : process_sheet c.args.card.now c.args.h.qubits ≡ kind_sheet c.args.card.now c.args.h = rw k refl in
+    same_outcome e c.process_sheet.ensures.0
 
 pub physical_sheet-requires : goal.physical_sheet-requires
 physical_sheet-requires c =
-    let a_2 = c.args in
-    let a = (accepted a_2.card.now a_2.h c.requires.0).kind4 c.if-kind-eq4.true in
+    let k = number-is c.in-Ok-Physical.ensures c.in-Ok-Physical.field-0-is in
+    let a = (accepted c.args.card.now c.args.h c.requires.0).kind4 k in
     (a.some, a.few, omega (arith, a.words))
 
-pub returns-then-kind-eq4 : goal.returns-then-kind-eq4
+pub returns-in-Ok-Physical : goal.returns-in-Ok-Physical
 unfolding kind_sheet
-returns-then-kind-eq4 c = same_outcome (no _ (ne_eqb _ _ c.if-kind-eq1.false) (no _ (ne_eqb _ _ c.if-kind-eq2.false) (no _ (ne_eqb _ _ c.if-kind-eq3.false) (yes _ (eq-eqb _ _ c.if-kind-eq4.true))))) (c.physical_sheet.ensures _)
+returns-in-Ok-Physical c =
+    let k = number-is c.in-Ok-Physical.ensures c.in-Ok-Physical.field-0-is in
+    let e : physical_sheet c.args.card.now c.args.h.qubits ≡ kind_sheet c.args.card.now c.args.h = rw k refl in
+    same_outcome e (c.physical_sheet.ensures _)
 
-pub run_model-requires : goal.run_model-requires
-run_model-requires c =
-    let a = c.args in
-    (c.requires.0, model-kind a.h (accepted a.card.now a.h c.requires.0).shaped.limits.least c.if-kind-eq1.false c.if-kind-eq2.false c.if-kind-eq3.false c.if-kind-eq4.false, c.requires.1, c.requires.2)
+pub fit_sheet-requires : goal.fit_sheet-requires
+fit_sheet-requires c =
+    let k = number-is c.in-Ok-Fit.ensures c.in-Ok-Fit.field-0-is in
+    let a = accepted c.args.card.now c.args.h c.requires.0 in
+    let f = a.kind5 k in
+    (record { shaped = a.shaped; kind = k; sequences = a.sequence; iterations = f.iterations; backtracks = f.backtracks }, c.requires.1)
 
-pub returns : goal.returns
-unfolding kind_sheet
-returns c = same_outcome (no _ (ne_eqb _ _ c.if-kind-eq1.false) (no _ (ne_eqb _ _ c.if-kind-eq2.false) (no _ (ne_eqb _ _ c.if-kind-eq3.false) (no _ (ne_eqb _ _ c.if-kind-eq4.false) refl)))) c.run_model.ensures
+pub returns-in-Ok-Fit : goal.returns-in-Ok-Fit
+unfolding kind_sheet model_sheet
+returns-in-Ok-Fit c =
+    let k = number-is c.in-Ok-Fit.ensures c.in-Ok-Fit.field-0-is in
+    let e : fit_sheet c.args.card.now c.args.h ≡ kind_sheet c.args.card.now c.args.h = rw k refl in
+    same_outcome e c.fit_sheet.ensures
+
+pub gauge_sheet-requires : goal.gauge_sheet-requires
+gauge_sheet-requires c =
+    let k = number-is c.in-Ok-Model.ensures c.in-Ok-Model.field-0-is in
+    ((accepted c.args.card.now c.args.h c.requires.0).shaped, k, c.requires.1, c.requires.2)
+
+pub returns-in-Ok-Model : goal.returns-in-Ok-Model
+unfolding kind_sheet model_sheet
+returns-in-Ok-Model c =
+    let k = number-is c.in-Ok-Model.ensures c.in-Ok-Model.field-0-is in
+    let e : gauge_sheet c.args.card.now c.args.h ≡ kind_sheet c.args.card.now c.args.h = rw k refl in
+    same_outcome e c.gauge_sheet.ensures.0
+
+pub diagnostics_sheet-requires : goal.diagnostics_sheet-requires
+diagnostics_sheet-requires c =
+    let k = number-is c.in-Ok-Diagnostics.ensures c.in-Ok-Diagnostics.field-0-is in
+    let a = accepted c.args.card.now c.args.h c.requires.0 in
+    (a.shaped, k, a.sequence, omega (arith, diagnostics-long c.args.h k, (a.kind7 k).words), c.requires.1)
+
+pub returns-in-Ok-Diagnostics : goal.returns-in-Ok-Diagnostics
+unfolding kind_sheet model_sheet
+returns-in-Ok-Diagnostics c =
+    let k = number-is c.in-Ok-Diagnostics.ensures c.in-Ok-Diagnostics.field-0-is in
+    let e : diagnostics_sheet c.args.card.now c.args.h ≡ kind_sheet c.args.card.now c.args.h = rw k refl in
+    same_outcome e c.diagnostics_sheet.ensures
+
+pub unreachable-requires : goal.unreachable-requires
+unreachable-requires c =
+    let l = (accepted c.args.card.now c.args.h c.requires.0).shaped.limits in
+    not-other c.args.h.kind l.least l.most c.in-Err.ensures.1

@@ -1,9 +1,9 @@
-use Prim.Native.Nat.{◌≤◌, ◌-◌}
-use Rattle.transfer.proofs.Vectors.{Found}
+use Rattle.std.proofs.Common.{◌≡◌}
+use Rattle.refusal.specs.Verdicts.{good}
+use Rattle.refusal.proofs.Verdicts.{tested}
+use Rattle.pauli.specs.Density.{vet_of}
+use Rattle.transfer.specs.Vectors.{vector_of}
 use Rattle.transfer.proofs.vet_each.Given as goal
 
 abbrev pub invariant-loop-k : goal.invariant-loop-k
-invariant-loop-k l = (l.k ≤ l.count) × Found l.tolerance l.vectors l.p l.k l.found
-
-abbrev pub decreases-loop-k : goal.decreases-loop-k
-decreases-loop-k l = l.count - l.k
+invariant-loop-k l = tested (λ k. vet_of l.tolerance (vector_of l.vectors l.p k)) l.k ≡ good

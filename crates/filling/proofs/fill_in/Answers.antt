@@ -1,5 +1,0 @@
-use Rattle.filling.proofs.Counting.{filling-is}
-use Rattle.filling.proofs.fill_in.Goals as goal
-
-pub returns : goal.returns
-returns c = filling-is _ _ _ _ c.arrange.ensures.1 c.threshold-t.ensures c.lower.ensures

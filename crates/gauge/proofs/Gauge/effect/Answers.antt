@@ -1,0 +1,23 @@
+use Rattle.std.proofs.Common.{List, ◌++◌, drop, ap, ◌∙◌, arith}
+use lib.Ieee.{Float}
+use Rattle.lists.proofs.Parts.{front-again, front_length, over-front}
+use Rattle.matrix.specs.Product.{row_mat_of}
+use Rattle.card_parts.specs.Model.{effect_of}
+use Rattle.gauge.specs.Gauge.{new_effect}
+use Rattle.gauge.proofs.Lengths.{length-effect, effect-in-length}
+use Rattle.gauge.proofs.Gauge.effect.Goals as goal
+
+pub row_mat-requires : goal.row_mat-requires
+row_mat-requires c =
+    let t = c.args.self.now in
+    (t.card.shaped.limits.dimension, omega (arith, front_length (effect_of t.card.bytes.now t.card.header c.args.k) _ c.load_effect.ensures (length-effect _ _ _)), t.whole_inverse, c.requires.1)
+
+pub returns : goal.returns
+unfolding new_effect
+returns c =
+    let t = c.args.self.now in
+    let s = t.card.bytes.now in
+    let h = t.card.header in
+    let e = front-again (effect_of s h c.args.k) _ c.load_effect.ensures (length-effect _ _ _) in
+    over-front (new_effect t.inverse.now s h c.args.k) c.args.out.now (effect-in-length _ _ t.inverse.now _ _)
+    (c.row_mat.ensures ∙ ap (λ (x : List Float). row_mat_of h.dimension x t.inverse.now ++ drop h.dimension c.args.out.now) e)

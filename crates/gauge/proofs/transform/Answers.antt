@@ -1,0 +1,45 @@
+use Rattle.std.proofs.Common.{List, sym, ap, ◌∙◌, arith}
+use Rattle.std.proofs.lemmas.Result.{err_from_is_err_and}
+use lib.Ieee.{Float}
+use Rattle.sizes.proofs.Small.{square-most}
+use Rattle.lists.specs.Build.{over}
+use Rattle.lists.proofs.Parts.{front-again, front_length}
+use Rattle.card_parts.specs.Model.{transform_of}
+use Rattle.gauge.specs.Gauge.{inverted_of, inverse_in}
+use Rattle.gauge.proofs.Lengths.{length-transform}
+use Rattle.gauge.proofs.Gauges.{inverse-length, transform-refused, transform-good}
+use Rattle.gauge.proofs.transform.Goals as goal
+
+pub load_transform-requires : goal.load_transform-requires
+load_transform-requires c =
+    let h = c.args.card.now.header in
+    (c.requires.0, omega (arith, square-most h.dimension c.args.card.now.shaped.limits.dimension))
+
+pub invert_transform-requires : goal.invert_transform-requires
+invert_transform-requires c =
+    let m = c.square-m.ensures.0 in
+    let h = c.args.card.now.header in
+    let k = c.args.card.now.shaped.limits.dimension in
+    (k, front_length (transform_of c.args.card.now.bytes.now h) _ c.load_transform.ensures (length-transform _ _ ∙ sym m) ∙ m, omega (arith, square-most h.dimension k))
+
+pub returns-in_err-invert_transform : goal.returns-in_err-invert_transform
+returns-in_err-invert_transform c =
+    let q = err_from_is_err_and c.from_residual.result c.from_residual.ensures.1 in
+    rw (q.1, q.2)
+    (let s = c.args.card.now.bytes.now in
+    let h = c.args.card.now.header in
+    let t = front-again (transform_of s h) _ c.load_transform.ensures (length-transform _ _ ∙ sym c.square-m.ensures.0) in
+    let r = transform-refused s h _ _ (c.invert_transform.ensures.0 ∙ ap (inverted_of h.dimension) t) c.in_err-invert_transform.was in
+    (r.0, ap (λ (x : List Float). over x c.args.work.now) r.1))
+
+pub returns : goal.returns
+returns c =
+    let s = c.args.card.now.bytes.now in
+    let h = c.args.card.now.header in
+    let d = h.dimension in
+    let m = c.square-m.ensures.0 in
+    let v = c.invert_transform.ensures in
+    let t = front-again (transform_of s h) _ c.load_transform.ensures (length-transform _ _ ∙ sym m) in
+    let g = c.in_ok-invert_transform.was in
+    let i = front-again (inverse_in d _) _ v.1 (inverse-length _ _ (sym g ∙ v.0) ∙ sym m) ∙ ap (inverse_in d) t in
+    transform-good s h _ _ t i _ _ _ _ (v.0 ∙ ap (inverted_of d) t) g c.tested.ensures.0 c.tested.ensures.1
