@@ -28,7 +28,7 @@ use Rattle.card_places.specs.Shape.{Shaped}
 use Rattle.card_places.proofs.Sizes.{wanted-most}
 use Rattle.card_places.proofs.Within.{shaped}
 use Rattle.card_parts.specs.Parts.{Sequence, coordinate_in}
-use Rattle.card_parts.proofs.Sequences.{length-sequence}
+use Rattle.card_parts.proofs.Sequences.{length_sequence}
 use Rattle.card_faults.specs.Walk.{Fault, first_of}
 use Rattle.card.specs.Reading.{header, examined, word_at_fault, size_at_fault, at_fault, lowest, fault_of, length_read, after_fault, read_of}
 use Rattle.card.proofs.Lowest.{lowest-none}
@@ -149,7 +149,7 @@ module _ (s : List ℕ) (h : Header) (a : Passed s h) where
       (ap (λ (p : ℕ). get_or (layout h) p number) (sym (add-zero (record_at h r))) ∙ stands-role x number 0 (omega (arith, length-record h.effects))) in
       let w = word_at s (record_at h r) in
       let n : length_of w ≤ longest = ltb-false longest (length_of w) (neither (ltb longest (length_of w)) (not (eqb (rest_of w) 0)) b).0 in
-      record { there = l; short = omega (arith, length-sequence s h r) }
+      record { there = l; short = omega (arith, length_sequence s h r) }
 
   named : (c : ℕ) → c < h.coordinates → Names (coordinate_in s h c)
   unfolding breaks coordinate_breaks coordinate_in

@@ -117,9 +117,9 @@ module _ (s : List ℕ) where
   lower-zero (Some (suc p)) = rw (lt-leb (suc p) 0 (omega arith))
   lower-zero None = refl
 
-  pub word0-fault : 8 ≤ length s → word0_breaks (header s) ≡ true → fault_of s ≡ Some 0
+  pub word0_fault : 8 ≤ length s → word0_breaks (header s) ≡ true → fault_of s ≡ Some 0
   unfolding examined
-  word0-fault h e = found s ∙ ap (earlier (size_fault s)) (first-zero (qubits_break (header s)) h e) ∙ lower-zero (size_fault s)
+  word0_fault h e = found s ∙ ap (earlier (size_fault s)) (first-zero (qubits_break (header s)) h e) ∙ lower-zero (size_fault s)
 
   -- with less than one word the card is refused at 0
   few : (a b : Bool) → length s < 8 → eqb (length s) 0 ≡ a → ltb 0 (length s % 8) ≡ b → size_fault s ≡ Some 0

@@ -2,7 +2,6 @@
 #![tactic(auto)]
 
 ghost use Rattle.std.specs.Prelude.{◌≡◌, false};
-ghost use Rattle.card_layout.specs.Limits.{Limited};
 ghost use Rattle.card_layout.specs.Rules.{word0_breaks};
 ghost use Rattle.card_layout.specs.Layout.{after_word0};
 ghost use Rattle.card_faults.specs.Walk.{walk};
@@ -10,12 +9,13 @@ ghost use Rattle.card.specs.Reading.{header, examined, length_read, after_fault,
 ghost use Rattle.card.specs.Scan.{size_fault};
 
 use card_faults::{coordinates_fault, earlier, limit_fault, records_fault};
-use card_layout::{Header, Kind, header_of, qubits_break, word0_breaks};
-use card_places::{after_model, coordinate_at, wanted};
+use card_layout::{Header, Kind, qubits_break, word0_breaks};
+use card_places::Layout;
 use numbers::word_at;
 use refusal::Refusal;
 use sizes::{four_to, square};
 
+#[tactic(auto, unfolding(crate::specs::Scan::size_fault))]
 fn size_fault(card: &[u8]) -> Option<usize>
     ensures { result ≡ size_fault card.now }
 {
@@ -33,22 +33,25 @@ fn size_fault(card: &[u8]) -> Option<usize>
 }
 
 // Kind 5: two controls, the records, the coordinates.
-fn fit_fault(card: &[u8], h: Header) -> Option<usize>
-    requires { Limited h × (h.kind ≡ 5) }
-    ensures { result ≡ walk card.now 1 (after_word0 h) }
+#[tactic(auto, using(crate::proofs::Walks::fault5))]
+fn fit_fault(card: &[u8], layout: Layout) -> Option<usize>
+    requires { layout.header.kind ≡ 5 }
+    ensures { result ≡ walk card.now 1 (after_word0 layout.header) }
 {
+    let h = layout.header;
     let iterations = limit_fault(card, 1, 65535);
     let backtracks = limit_fault(card, 7, 255);
-    let records = records_fault(card, after_model(h), h.effects, h.records);
-    let coordinates = coordinates_fault(card, coordinate_at(h, 0), h.coordinates);
+    let records = records_fault(card, layout.after_model(), h.effects, h.records);
+    let coordinates = coordinates_fault(card, layout.coordinate_at(0), h.coordinates);
     iterations.or(backtracks.or(records.or(coordinates)))
 }
 
 // The words after word 0.
-fn kind_fault(card: &[u8], h: Header) -> Option<usize>
-    requires { Limited h }
-    ensures { result ≡ walk card.now 1 (after_word0 h) }
+#[tactic(auto, using(crate::proofs::Walks::fault2, crate::proofs::Walks::fault4, crate::proofs::Walks::fault7, crate::proofs::Walks::faultless, card_layout::proofs::EachKind::known))]
+fn kind_fault(card: &[u8], layout: Layout) -> Option<usize>
+    ensures { result ≡ walk card.now 1 (after_word0 layout.header) }
 {
+    let h = layout.header;
     match Kind::try_from(h.kind) {
         Ok(Kind::Projected) => {
             let m = square(h.dimension);
@@ -58,8 +61,8 @@ fn kind_fault(card: &[u8], h: Header) -> Option<usize>
             let m = square(four_to(h.qubits));
             limit_fault(card, 2, (64 * m) as u64)
         }
-        Ok(Kind::Fit) => fit_fault(card, h),
-        Ok(Kind::Diagnostics) => records_fault(card, after_model(h), h.effects, h.records),
+        Ok(Kind::Fit) => fit_fault(card, layout),
+        Ok(Kind::Diagnostics) => records_fault(card, layout.after_model(), h.effects, h.records),
         Ok(Kind::Density) => None,
         Ok(Kind::Process) => None,
         Ok(Kind::Model) => None,
@@ -68,6 +71,7 @@ fn kind_fault(card: &[u8], h: Header) -> Option<usize>
 }
 
 // The words that are looked at, where word 0 keeps its rule.
+#[tactic(auto, using(card_layout::proofs::EachKind::limited, crate::proofs::Walks::short, crate::proofs::Walks::long))]
 fn words_fault(card: &[u8], h: Header) -> Option<usize>
     requires { (h ≡ header card.now) × (word0_breaks h ≡ false) }
     ensures { result ≡ walk card.now 0 (examined card.now) }
@@ -75,9 +79,11 @@ fn words_fault(card: &[u8], h: Header) -> Option<usize>
     if qubits_break(h) {
         return None;
     }
-    kind_fault(card, h)
+    let layout = Layout { header: h };
+    kind_fault(card, layout)
 }
 
+#[tactic(auto, using(card_layout::proofs::EachKind::limited), unfolding(crate::specs::Reading::length_read))]
 fn length_read(h: Header, found: usize) -> Result<Header, Refusal>
     requires { word0_breaks h ≡ false }
     ensures { result ≡ length_read h found }
@@ -85,7 +91,8 @@ fn length_read(h: Header, found: usize) -> Result<Header, Refusal>
     if qubits_break(h) {
         return Err(Refusal::InvalidQubits);
     }
-    let w = wanted(h);
+    let layout = Layout { header: h };
+    let w = layout.wanted();
     if w == found {
         return Ok(h);
     }
@@ -105,13 +112,14 @@ fn after_fault(f: Option<usize>, r: Result<Header, Refusal>) -> Result<Header, R
 }
 
 // What the card is refused for, or its word 0.
+#[tactic(auto, using(crate::proofs::Walks::no_word, crate::proofs::Walks::word0_fault, crate::proofs::Lowest::found), unfolding(crate::specs::Reading::read_of, crate::specs::Reading::header))]
 pub fn read(card: &[u8]) -> Result<Header, Refusal>
     ensures { result ≡ read_of card.now }
 {
     if card.len() < 8 {
         return Err(Refusal::InvalidCard(0));
     }
-    let h = header_of(word_at(card, 0));
+    let h = Header::from(word_at(card, 0));
     if word0_breaks(h) {
         return Err(Refusal::InvalidCard(0));
     }

@@ -6,11 +6,12 @@ use mathlib.Core.Logic.{◌⊎◌, inl, inr, ⊎_elim}
 use native.Mathlib.Nat.{eq-or-lt_of_le}
 use native.Mathlib.Omega.{arith}
 use lib.Arith.{le-zero}
-use borrow.Author.Tests.{ne_eqb, eq-eqb, lt-ltb, ltb-true, ltb-false, eqb-false}
+use borrow.Author.Tests.{ne_eqb, eq-eqb, lt-ltb, le-ltb, ltb-true, ltb-false, eqb-false}
 use lib.Dec.{ltb, eqb, lit≤}
 use Rattle.booleans.proofs.Joined.{neither, second-not}
 use Rattle.card_layout.specs.declared.Header.{Header}
 use Rattle.card_layout.specs.declared.kind.Kind.{Kind}
+use Rattle.card_layout.specs.declared.kind.Kind.TheVariants.{Density, Projected, Process, Physical, Fit, Model, Diagnostics}
 use Rattle.card_layout.specs.Kinds.{number_of}
 use Rattle.card_layout.specs.Limits.{up_to, unknown, limits_of, Keeps, Limited}
 use Rattle.card_layout.specs.Rules.{past, no_matrix, word0_breaks, qubits_break}
@@ -20,21 +21,33 @@ pub number-is : {k : ℕ} {x y : Kind} → number_of x ≡ k → x ≡ y → k �
 number-is e f = sym e ∙ ap number_of f
 
 -- a number that no kind has
-pub other-kind : (k : ℕ) → (1 ≤ k → k ≤ 7 → ⊥) → unknown k ≡ true
+pub other_kind : (k : ℕ) → (1 ≤ k → k ≤ 7 → ⊥) → unknown k ≡ true
 unfolding unknown
-other-kind zero h = refl
-other-kind (suc k) h = rw (ne_eqb (suc k) 0 (λ e. omega arith), lt-ltb 7 (suc k) (omega arith)) refl
+other_kind zero h = refl
+other_kind (suc k) h = rw (ne_eqb (suc k) 0 (λ e. omega arith), lt-ltb 7 (suc k) (omega arith)) refl
 
-pub not-other : {A : Type 0} (k : ℕ) → 1 ≤ k → k ≤ 7 → unknown k ≡ true → A
+-- one within the limits has one of the kinds
+pub known : (k : ℕ) → 1 ≤ k → k ≤ 7 → unknown k ≡ false
 unfolding unknown
-not-other zero l m e = absurd (omega arith)
-not-other (suc k) l m e = let d = rw (ne_eqb (suc k) 0 (λ q. omega arith)) at e in absurd (omega (arith, ltb-true 7 (suc k) d))
+known zero l m = absurd (omega arith)
+known (suc k) l m = rw (ne_eqb (suc k) 0 (λ e. omega arith), le-ltb 7 (suc k) (omega arith)) refl
+
+-- the number of a kind, and which it is
+pub known_number : (x : Kind) → unknown (number_of x) ≡ false
+unfolding unknown
+known_number Density = refl
+known_number Projected = refl
+known_number Process = refl
+known_number Physical = refl
+known_number Fit = refl
+known_number Model = refl
+known_number Diagnostics = refl
 
 -- it lacks every field
-pub limits-none : (k : ℕ) → unknown k ≡ true → up_to 0 0 0 0 0 0 0 ≡ limits_of k
+pub limits_none : (k : ℕ) → unknown k ≡ true → up_to 0 0 0 0 0 0 0 ≡ limits_of k
 unfolding limits_of unknown
-limits-none zero e = refl
-limits-none (suc k) e =
+limits_none zero e = refl
+limits_none (suc k) e =
     let d = rw (ne_eqb (suc k) 0 (λ q. omega arith)) at e in
     let h : 7 < suc k = ltb-true 7 (suc k) d in
     rw (ne_eqb (suc k) 1 (omega arith), ne_eqb (suc k) 2 (omega arith), ne_eqb (suc k) 3 (omega arith), ne_eqb (suc k) 4 (omega arith), ne_eqb (suc k) 5 (omega arith), ne_eqb (suc k) 6 (omega arith), ne_eqb (suc k) 7 (omega arith))

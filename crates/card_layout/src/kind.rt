@@ -1,7 +1,7 @@
-// The kinds of a card.
+// The kinds of a card, and of a coordinate.
 ghost use Rattle.std.specs.Prelude.{◌≡◌};
 ghost use Rattle.card_layout.specs.Limits.{limits_of};
-ghost use Rattle.card_layout.specs.Kinds.{number_of, Numbers};
+ghost use Rattle.card_layout.specs.Kinds.{number_of, Numbers, CoordinateNumbers};
 
 use crate::{Header, up_to};
 
@@ -17,7 +17,7 @@ pub enum Kind {
     Diagnostics = 7,
 }
 
-// A number that no kind has.
+// A number that no kind has, of a card or of a coordinate.
 #[derive(Clone, Copy, PartialEq, Eq)]
 pub struct UnknownKind(pub usize);
 
@@ -26,6 +26,7 @@ impl TryFrom<usize> for Kind {
 
     ghost try_from_gives = { Numbers };
 
+    #[tactic(auto, using(crate::proofs::EachKind::other_kind))]
     fn try_from(number: usize) -> Result<Kind, UnknownKind> {
         match number {
             1 => Ok(Kind::Density),
@@ -54,6 +55,29 @@ impl Kind {
             Kind::Fit => up_to(5, 0, 16, 16, 8, 200, 64),
             Kind::Model => up_to(6, 0, 16, 16, 8, 0, 0),
             Kind::Diagnostics => up_to(7, 0, 16, 16, 8, 200, 0),
+        }
+    }
+}
+
+// What a coordinate names an entry of, under document 01's numbers.
+#[derive(Clone, Copy, PartialEq, Eq)]
+pub enum CoordinateKind {
+    State = 1,
+    Effect = 2,
+    Gate = 3,
+}
+
+impl TryFrom<usize> for CoordinateKind {
+    type Error = UnknownKind;
+
+    ghost try_from_gives = { CoordinateNumbers };
+
+    fn try_from(number: usize) -> Result<CoordinateKind, UnknownKind> {
+        match number {
+            1 => Ok(CoordinateKind::State),
+            2 => Ok(CoordinateKind::Effect),
+            3 => Ok(CoordinateKind::Gate),
+            other => Err(UnknownKind(other)),
         }
     }
 }

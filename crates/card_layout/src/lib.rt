@@ -2,15 +2,15 @@
 #![tactic(auto)]
 
 ghost use Rattle.std.specs.Prelude.{◌≡◌, ◌<◌};
-ghost use Rattle.card_layout.specs.Fields.{header_of, coordinate_of, length_of, index_of};
+ghost use Rattle.card_layout.specs.Fields.{length_of, index_of};
 ghost use Rattle.card_layout.specs.Limits.{up_to, limits_of};
 ghost use Rattle.card_layout.specs.Rules.{past, word0_breaks, qubits_break, sequence_breaks, used_in, indices_break, coordinate_breaks};
 
 mod kind;
 
-pub use kind::{Kind, UnknownKind};
+pub use kind::{CoordinateKind, Kind, UnknownKind};
 
-// The fields of word 0.
+// The fields of word 0, as they stand on the card before any test: a number for the kind, which may be none's. What goes on by kind asks `Kind`.
 #[derive(Clone, Copy)]
 pub struct Header {
     pub kind: usize,
@@ -23,7 +23,7 @@ pub struct Header {
     pub rest: usize,
 }
 
-// The fields of a coordinate: `which` is the outcome or the gate, `column` the index or the column.
+// The fields of a coordinate, as they stand on the card: `which` is the outcome or the gate, `column` the index or the column.
 #[derive(Clone, Copy)]
 pub struct Coordinate {
     pub kind: usize,
@@ -32,29 +32,37 @@ pub struct Coordinate {
     pub column: usize,
 }
 
-pub fn header_of(w: u64) -> Header
-    ensures { result ≡ header_of w }
-{
-    Header {
-        kind: ((w >> 60) % 16) as usize,
-        qubits: ((w >> 56) % 16) as usize,
-        dimension: ((w >> 48) % 256) as usize,
-        effects: ((w >> 40) % 256) as usize,
-        gates: ((w >> 32) % 256) as usize,
-        records: ((w >> 16) % 65536) as usize,
-        coordinates: ((w >> 8) % 256) as usize,
-        rest: (w % 256) as usize,
+impl From<u64> for Header {
+    ghost use Rattle.card_layout.specs.Fields.{header_of};
+
+    ghost from_gives = { λ w h. h ≡ header_of w };
+
+    fn from(w: u64) -> Header {
+        Header {
+            kind: ((w >> 60) % 16) as usize,
+            qubits: ((w >> 56) % 16) as usize,
+            dimension: ((w >> 48) % 256) as usize,
+            effects: ((w >> 40) % 256) as usize,
+            gates: ((w >> 32) % 256) as usize,
+            records: ((w >> 16) % 65536) as usize,
+            coordinates: ((w >> 8) % 256) as usize,
+            rest: (w % 256) as usize,
+        }
     }
 }
 
-pub fn coordinate_of(w: u64) -> Coordinate
-    ensures { result ≡ coordinate_of w }
-{
-    Coordinate {
-        kind: ((w >> 60) % 16) as usize,
-        which: ((w >> 48) % 4096) as usize,
-        row: ((w >> 24) % 16777216) as usize,
-        column: (w % 16777216) as usize,
+impl From<u64> for Coordinate {
+    ghost use Rattle.card_layout.specs.Fields.{coordinate_of};
+
+    ghost from_gives = { λ w c. c ≡ coordinate_of w };
+
+    fn from(w: u64) -> Coordinate {
+        Coordinate {
+            kind: ((w >> 60) % 16) as usize,
+            which: ((w >> 48) % 4096) as usize,
+            row: ((w >> 24) % 16777216) as usize,
+            column: (w % 16777216) as usize,
+        }
     }
 }
 
@@ -89,6 +97,7 @@ fn up_to(k: usize, n: usize, d: usize, e: usize, g: usize, r: usize, c: usize) -
 }
 
 // The largest value of each field of word 0, by kind.
+#[tactic(auto, using(crate::proofs::EachKind::limits_none))]
 fn limits_of(k: usize) -> Header
     ensures { result ≡ limits_of k }
 {
@@ -99,6 +108,7 @@ fn limits_of(k: usize) -> Header
 }
 
 // Each name stands for the test of its field and those after it.
+#[tactic(auto, unfolding(crate::specs::Rules::past))]
 fn past(m: Header, h: Header) -> bool
     ensures { result ≡ past m h }
 {
@@ -111,16 +121,21 @@ fn past(m: Header, h: Header) -> bool
 }
 
 // Whether word 0 is at fault.
+#[tactic(auto, using(crate::proofs::EachKind::known_number), unfolding(crate::specs::Rules::word0_breaks, crate::specs::Rules::no_matrix))]
 pub fn word0_breaks(h: Header) -> bool
     ensures { result ≡ word0_breaks h }
 {
-    let k = h.kind;
-    let unknown = (k == 0) | (7 < k);
-    let no_matrix = (k == 2) & (h.dimension == 0);
-    unknown | (no_matrix | past(limits_of(k), h))
+    match Kind::try_from(h.kind) {
+        Ok(kind) => {
+            let no_matrix = (kind == Kind::Projected) & (h.dimension == 0);
+            no_matrix | past(kind.limits(), h)
+        }
+        Err(UnknownKind(_)) => true,
+    }
 }
 
 // Whether n, where the kind has it, is 0 or above its limit.
+#[tactic(auto, unfolding(crate::specs::Rules::qubits_break))]
 pub fn qubits_break(h: Header) -> bool
     ensures { result ≡ qubits_break h }
 {
@@ -130,6 +145,7 @@ pub fn qubits_break(h: Header) -> bool
 }
 
 // Whether a record's first word is at fault.
+#[tactic(auto, unfolding(crate::specs::Rules::sequence_breaks))]
 pub fn sequence_breaks(w: u64) -> bool
     ensures { result ≡ sequence_breaks w }
 {
@@ -158,13 +174,14 @@ pub fn indices_break(len: usize, j: usize, w: u64) -> bool
 }
 
 // Whether a coordinate is at fault.
+#[tactic(auto, unfolding(crate::specs::Rules::coordinate_breaks))]
 pub fn coordinate_breaks(c: Coordinate) -> bool
     ensures { result ≡ coordinate_breaks c }
 {
-    match c.kind {
-        1 => (c.which != 0) | (c.row != 0),
-        2 => c.row != 0,
-        3 => false,
-        _ => true,
+    match CoordinateKind::try_from(c.kind) {
+        Ok(CoordinateKind::State) => (c.which != 0) | (c.row != 0),
+        Ok(CoordinateKind::Effect) => c.row != 0,
+        Ok(CoordinateKind::Gate) => false,
+        Err(_) => true,
     }
 }

@@ -18,6 +18,10 @@ pub record Sequence (s : List ℕ) (h : Header) (r : ℕ) : Type 0 where
   pub there : r < h.records
   pub short : length (sequence_of s h r) ≤ longest
 
+-- the same of every record
+abbrev pub Sequences : List ℕ → Header → Type 0
+Sequences s h = (r : ℕ) → r < h.records → Sequence s h r
+
 -- record r's count of outcome k
 unfoldable pub count_in : List ℕ → Header → ℕ → ℕ → ℕ
 count_in s h r k = word_at s (count_at h r k)

@@ -14,19 +14,15 @@ use Rattle.card_places.specs.Places.{wanted_words, model_words}
 use Rattle.card_places.proofs.ByKind.{at5, at6, at7, words1, words2, words3, words4, words5, words6, words7}
 
 -- two numbers of 16 bits have a product of 32
-pub product-fits : (a b : ℕ) → a ≤ 65536 → b ≤ 65536 → a * b ≤ 4294967296
-product-fits a b h k = product_le a b 65536 65536 h k
-
--- a result that is m has m's bound
-pub bounded : {r m n : ℕ} → r ≡ m → m ≤ n → (r ≡ m) × (r ≤ n)
-bounded e h = (e, omega arith)
+pub product_fits : (a b : ℕ) → a ≤ 65536 → b ≤ 65536 → a * b ≤ 4294967296
+product_fits a b h k = product_le a b 65536 65536 h k
 
 module _ (h : Header) (l : Limited h) where
   pub square-most : h.dimension * h.dimension ≤ 256
   square-most = product_le h.dimension h.dimension 16 16 l.dimension l.dimension
 
-  pub model-most : model_words h ≤ 2328
-  model-most =
+  pub model_most : model_words h ≤ 2328
+  model_most =
       let s = square-most in
       let e : h.effects * h.dimension ≤ 256 = product_le h.effects h.dimension 16 16 l.effects l.dimension in
       let g : h.gates * (1 + h.dimension * h.dimension) ≤ 8 * 257 = product_le h.gates (1 + h.dimension * h.dimension) 8 257 l.gates (omega arith) in
@@ -46,7 +42,7 @@ module _ (h : Header) (l : Limited h) where
     pub wanted-most : wanted_words h ≤ 6601
     unfolding limits_of
     wanted-most =
-        let m = model-most in
+        let m = model_most in
         let s = square-most in
         let r = records-most in
         at-kind h rule (λ k. h.kind ≡ k → wanted_words h ≤ 6601) (λ e. omega (arith, words1 h e, (four-shift h.qubits l.qubits).1))

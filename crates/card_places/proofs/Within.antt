@@ -22,38 +22,38 @@ module _ (s : List ℕ) (h : Header) (a : Shaped s h) where
   ends : {part : List Role} {p : ℕ} (n : ℕ) → Stands (layout h) p part → length part ≡ n → (p + n) * 8 ≤ length s
   ends n x e = omega (arith, a.length, stands-fits x)
 
-  pub word0-in : 8 ≤ length s
+  pub word0_inside : 8 ≤ length s
   unfolding layout
-  word0-in = omega (arith, a.length)
+  word0_inside = omega (arith, a.length)
 
-  pub controls-in : h.kind ≡ 5 → (1 + 8) * 8 ≤ length s
-  controls-in e = ends 8 (controls-stand h e) (omega arith)
+  pub controls_inside : h.kind ≡ 5 → (1 + 8) * 8 ≤ length s
+  controls_inside e = ends 8 (controls-stand h e) (omega arith)
 
-  pub model_stands : 5 ≤ h.kind → (model_at h + model_words h) * 8 ≤ length s
-  model_stands k = ends (model_words h) (model-stands h a.word0 k) (length-model h.dimension h.effects h.gates)
+  pub model_inside : 5 ≤ h.kind → (model_at h + model_words h) * 8 ≤ length s
+  model_inside k = ends (model_words h) (model-stands h a.word0 k) (length-model h.dimension h.effects h.gates)
 
-  pub state-in : 5 ≤ h.kind → (state_at h + h.dimension) * 8 ≤ length s
-  state-in k = ends h.dimension (state-stands h a.word0 k) (length-each h.dimension number)
+  pub state_inside : 5 ≤ h.kind → (state_at h + h.dimension) * 8 ≤ length s
+  state_inside k = ends h.dimension (state-stands h a.word0 k) (length-each h.dimension number)
 
-  pub effect-in : (k : ℕ) → k < h.effects → (effect_at h k + h.dimension) * 8 ≤ length s
-  effect-in k l = ends h.dimension (effect-stands h a.word0 k l) (length-each h.dimension number)
+  pub effect_inside : (k : ℕ) → k < h.effects → (effect_at h k + h.dimension) * 8 ≤ length s
+  effect_inside k l = ends h.dimension (effect-stands h a.word0 k l) (length-each h.dimension number)
 
   -- a gate with its name
-  pub gate-in : (g : ℕ) → g < h.gates → (gate_name_at h g + (1 + h.dimension * h.dimension)) * 8 ≤ length s
-  gate-in g l = ends (1 + h.dimension * h.dimension) (gate-stands h a.word0 g l) (omega (arith, length-each (h.dimension * h.dimension) number))
+  pub gate_inside : (g : ℕ) → g < h.gates → (gate_name_at h g + (1 + h.dimension * h.dimension)) * 8 ≤ length s
+  gate_inside g l = ends (1 + h.dimension * h.dimension) (gate-stands h a.word0 g l) (omega (arith, length-each (h.dimension * h.dimension) number))
 
-  pub transform-in : h.kind ≡ 6 → (transform_at h + h.dimension * h.dimension) * 8 ≤ length s
-  transform-in e = ends (h.dimension * h.dimension) (transform-stands h e) (length-each (h.dimension * h.dimension) number)
+  pub transform_inside : h.kind ≡ 6 → (transform_at h + h.dimension * h.dimension) * 8 ≤ length s
+  transform_inside e = ends (h.dimension * h.dimension) (transform-stands h e) (length-each (h.dimension * h.dimension) number)
 
   -- a whole record, so each of its words
-  pub record-in : (r : ℕ) → r < h.records → (record_at h r + record_words h) * 8 ≤ length s
-  record-in r l = ends (record_words h) (record-stands h a.word0 r l) (length-record h.effects)
+  pub record_inside : (r : ℕ) → r < h.records → (record_at h r + record_words h) * 8 ≤ length s
+  record_inside r l = ends (record_words h) (record-stands h a.word0 r l) (length-record h.effects)
 
-  pub index_in : (r k : ℕ) → r < h.records → k < 64 → index_at h r k * 8 + 8 ≤ length s
-  index_in r k l m = omega (arith, record-in r l)
+  pub index_inside : (r k : ℕ) → r < h.records → k < 64 → index_at h r k * 8 + 8 ≤ length s
+  index_inside r k l m = omega (arith, record_inside r l)
 
-  pub count-in : (r k : ℕ) → r < h.records → k < h.effects → count_at h r k * 8 + 8 ≤ length s
-  count-in r k l m = omega (arith, record-in r l)
+  pub count_inside : (r k : ℕ) → r < h.records → k < h.effects → count_at h r k * 8 + 8 ≤ length s
+  count_inside r k l m = omega (arith, record_inside r l)
 
-  pub coordinate-in : (c : ℕ) → c < h.coordinates → coordinate_at h c * 8 + 8 ≤ length s
-  coordinate-in c l = omega (arith, ends 1 (coordinate-stands h a.word0 c l) (omega arith))
+  pub coordinate_inside : (c : ℕ) → c < h.coordinates → coordinate_at h c * 8 + 8 ≤ length s
+  coordinate_inside c l = omega (arith, ends 1 (coordinate-stands h a.word0 c l) (omega arith))

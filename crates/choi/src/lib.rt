@@ -75,6 +75,7 @@ impl Sizes {
     {
         let f = pauli::filled_of(self.n, b, j);
         let w = self.share_of(f.power, x);
+        // By places, here and below: see crate entries. A term may fall on any entry.
         for r in 0..self.d {
             self.add_term(a, f, w, j, r, out);
         }

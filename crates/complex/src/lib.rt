@@ -13,14 +13,14 @@ pub struct Complex {
     pub im: f64,
 }
 
-// The smaller of x and y: of a NaN and another the other. `f64::min` leaves open which of two that compare equal it gives.
+// The smaller of x and y: of a NaN and another the other. `f64::min` leaves open which of two equal numbers it gives, and the definition fixes their bits.
 fn min_of(x: f64, y: f64) -> f64
     ensures { result ≡ min x y }
 {
-    if x != x {
+    if x.is_nan() {
         return y;
     }
-    if y != y {
+    if y.is_nan() {
         return x;
     }
     if y < x {

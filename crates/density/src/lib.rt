@@ -23,6 +23,7 @@ fn halve_row(e: &[f64], n: usize, i: usize, h: &mut [f64])
     requires { (length e.now ≡ 2 * (n * n)) × (length h.old ≡ 2 * (n * n)) × (i < n) }
     ensures { entries h.new ≡ laid_row n (spec.halved_at n (entries e.now)) i (entries h.old) }
 {
+    // By places, here and below: see crate entries.
     for j in 0..n {
         entries::write(h, n, i, j, halved_at(e, n, i, j));
     }

@@ -2,6 +2,9 @@
 // proofs/Points.antt: none of it depends on how the fit is computed, which is crate `fit`.
 #![tactic(auto)]
 
+ghost use Rattle.std.specs.Prelude.{◌≡◌};
+ghost use Rattle.descent.specs.Stop.{stop_number, converged};
+
 // The Rust's `GstOptimizerConfig`.
 #[derive(Clone, Copy)]
 pub struct GstOptimizerConfig {
@@ -18,10 +21,29 @@ pub struct GstOptimizerConfig {
 // The Rust's `GstTermination`.
 #[derive(Clone, Copy, Debug, PartialEq, Eq)]
 pub enum GstTermination {
-    GradientTolerance,
-    ObjectiveTolerance,
-    MaximumIterations,
-    LineSearchStalled,
+    GradientTolerance = 1,
+    ObjectiveTolerance = 2,
+    MaximumIterations = 3,
+    LineSearchStalled = 4,
+}
+
+impl GstTermination {
+    // R of a sheet, as document 01 numbers it.
+    pub fn number(self) -> u64
+        ensures { result ≡ stop_number self }
+    {
+        self as u64
+    }
+
+    // V of a sheet: a tolerance stopped the fit, and not a limit or a stalled search.
+    pub fn has_converged(self) -> bool
+        ensures { result ≡ converged self }
+    {
+        matches!(
+            self,
+            GstTermination::GradientTolerance | GstTermination::ObjectiveTolerance
+        )
+    }
 }
 
 // What a search ends at: the number of the accepted trial, and its objective.

@@ -38,11 +38,9 @@ fn expectation(n: usize, probe: usize, string: usize) -> f64
     requires { n ≤ 3 }
     ensures { result ≡ expectation n probe string }
 {
-    let mut x = 1.0;
-    for qubit in 0..n {
-        x *= local(digit::<4>(n, probe, qubit), digit::<4>(n, string, qubit));
-    }
-    x
+    (0..n)
+        .map(|qubit| local(digit::<4>(n, probe, qubit), digit::<4>(n, string, qubit)))
+        .product()
 }
 
 // The Rust's `product_probe_expectations`, at the front of `out`.

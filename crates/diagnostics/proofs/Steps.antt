@@ -7,14 +7,16 @@ use mathlib.Core.Path.{◌≡◌, refl, sym, ◌∙◌, ap, ap₂}
 use mathlib.Core.Bool.{Bool, true, false≢true}
 use mathlib.Core.List.{List, [], ◌++◌, append-nil}
 use native.Mathlib.Omega.{arith}
-use lib.ListN.{length, get_or, drop, drop_of_length-le}
+use lib.ListN.{length, get_or, take, drop}
+use lib.Seq.{take_at}
 use lib.Ieee.{Float}
 use Rattle.lists.proofs.Parts.{row_fits}
 use Rattle.refusal.specs.declared.Refusal.{Refusal}
 use Rattle.card_layout.specs.declared.Header.{Header}
 use Rattle.card_parts.specs.Parts.{sequence_of}
+use Rattle.model_words.specs.Words.{model_numbers}
 use Rattle.gate_set.specs.GateSet.{columns_in, present_of, probabilities_of, probabilities_by}
-use Rattle.gate_set.proofs.Columns.{length-columns-in, same-probabilities}
+use Rattle.gate_set.proofs.Columns.{length-columns-in, length-probabilities-by, same-probabilities}
 use Rattle.gate_set.proofs.Sequences.{present-below}
 use Rattle.likelihood.specs.declared.Diagnostics.{Diagnostics}
 use Rattle.lists.proofs.Folding.{fold_stays}
@@ -22,15 +24,19 @@ use Rattle.likelihood.proofs.Loops.{weighed}
 use Rattle.likelihood.specs.Multinomial.{Likelihood, onward, with_record}
 use Rattle.diagnostics.specs.Diagnostics.{counts_of, record_onward}
 
+-- the state and the effects lie within a model
+pub vectors-in : (h : Header) (n : ℕ) → model_numbers h ≤ n → h.dimension + h.effects * h.dimension ≤ n
+vectors-in h n l = omega arith
+
 module _ (d e gates : ℕ) (m columns : List Float) (sequence : List ℕ) (q : columns ≡ columns_in d e gates m) (p : present_of gates sequence ≡ good) where
   -- the sequence's gates lie among the columns
   pub gates-lie : (k : ℕ) → k < length sequence → get_or sequence k 0 * (d * d) + d * d ≤ length columns
   gates-lie k l = row_fits (get_or sequence k 0) gates (d * d) (length columns) (present-below gates sequence p k l) (omega (arith, ap length q, length-columns-in d e gates m))
 
-  -- what they give, all of its room
-  pub probabilities-are : (ps₀ ps : List Float) → length ps₀ ≡ e → ps ≡ probabilities_by d e m columns sequence ++ drop e ps₀ → ps ≡ probabilities_of d e m sequence
-  probabilities-are ps₀ ps n f =
-      f ∙ ap (λ (l : List Float). probabilities_by d e m columns sequence ++ l) (drop_of_length-le ps₀ {i = e} (omega arith)) ∙ append-nil _
+  -- what they give, at the front of their row
+  pub probabilities-are : (n : ℕ) (row₀ row : List Float) → n ≡ e → row ≡ probabilities_by d e m columns sequence ++ drop e row₀ → take n row ≡ probabilities_of d e m sequence
+  probabilities-are n row₀ row h f =
+      ap (take n) f ∙ take_at (probabilities_by d e m columns sequence) (drop e row₀) n (length-probabilities-by d e m columns sequence ∙ sym h)
       ∙ same-probabilities d e gates m columns [] sequence (q ∙ sym (append-nil (columns_in d e gates m))) (present-below gates sequence p)
 
 -- nothing follows what has ended

@@ -1,6 +1,6 @@
 -- The likelihood of a card's records under a model (the Rust's `fit_diagnostics_with_tolerance`): record by record, all of one before any of the next.
-use Rattle.likelihood.specs.declared.Unfit.TheVariants.{Probabilities, Refused}
-use Rattle.std.specs.Prelude.{Err, Ok, ℕ, ◌≤◌, ◌≡◌, Bool, true, false, List, length, Float}
+use Rattle.likelihood.specs.declared.Unfit.TheVariants.{Refused}
+use Rattle.std.specs.Prelude.{Err, Ok, ℕ, ◌≤◌, ◌≡◌, Bool, List, length, Float}
 use Rattle.lists.specs.Build.{build}
 use Rattle.lists.specs.Fold.{fold}
 use Rattle.numbers.specs.Number.{zero_f}
@@ -35,14 +35,8 @@ module _ (log : Float → Float) (deviance : Bool) (tolerance : Float) (s : List
 abbrev pub likelihood_of : Bool → Float → List ℕ → Header → List Float → Likelihood
 likelihood_of deviance tolerance s h m = likelihood_by ln deviance tolerance s h m
 
--- ---- what the code is lent, and when it may stop
+-- ---- what the code is lent
 
 -- a model's numbers and its gates by columns
 abbrev pub Columned : Header → List Float → List Float → Type 0
 Columned h m columns = (model_numbers h ≤ length m) × (columns ≡ columns_in h.dimension h.effects h.gates m)
-
--- no record changes it any more
-abbrev pub ended : Likelihood → Bool
-ended (Ok d) = false
-ended (Err Probabilities) = true
-ended (Err (Refused r)) = true

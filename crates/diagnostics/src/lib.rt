@@ -1,23 +1,27 @@
-// The likelihood of a card's records under a model, or under two models in one pass.
+// The likelihood of a card's records under models, in one pass for all of them.
 #![tactic(auto)]
 
-ghost use Rattle.std.specs.Prelude.{Err, ◌≡◌, ℕ, ◌*◌, ◌≤◌, ◌<◌, length, false};
+ghost use Rattle.std.specs.Prelude.{Err, ◌≡◌, ◌*◌, ◌≤◌, ◌<◌, [], ◌∷◌, length, take, false, true, ◌↔◌, IsTrue, EachIndex};
+ghost use Rattle.std.specs.Result.{is_err};
 ghost use Rattle.lists.specs.Build.{over};
-ghost use Rattle.card_parts.specs.Parts.{sequence_of, Sequence};
+ghost use Rattle.card_parts.specs.Parts.{sequence_of, Sequence, Sequences};
 ghost use Rattle.model_words.specs.Words.{model_numbers};
 ghost use Rattle.gate_set.specs.GateSet.{columns_in};
 ghost use Rattle.likelihood.specs.Multinomial.{log_in, onward, with_record};
 ghost use Rattle.likelihood.specs.declared.Unfit.TheVariants.{Refused};
-ghost use Rattle.diagnostics.specs.Diagnostics.{counts_of, likelihood_of};
-ghost use Rattle.diagnostics.specs.Lent.{step_of, all_of, Kept};
+ghost use Rattle.diagnostics.specs.Diagnostics.{counts_of, likelihood_of, Columned};
+ghost use Rattle.gate_set.specs.Models.{row_at};
+ghost use Rattle.diagnostics.specs.Lent.{sum_at, EachOnward, AllKept, AllAdded, AllSummed, AllColumned, AllFitted};
 
 use card_parts::Card;
+use gate_set::Model;
 use likelihood::{Diagnostics, Unfit, Weighing};
+use logarithm::LnTables;
 use refusal::Refusal;
 
 mod records;
 
-use records::{Model, Pair, Records};
+use records::Records;
 
 // Record r's sequence.
 fn load_sequence(card: &Card<'_>, r: usize, out: &mut [usize])
@@ -39,45 +43,130 @@ fn load_counts(card: &Card<'_>, r: usize, out: &mut [u64])
     }
 }
 
-// Adds record r's terms to d. `room` has room for a sequence.
-fn add_record(
+// One record more, of these counts and the probabilities at the front of ps, where all before it passed.
+fn weigh(w: &Weighing<'_>, counts: &[u64], ps: &[f64; 16], l: &mut Result<Diagnostics, Unfit>)
+    requires { length counts.now ≤ 16 }
+    ensures { l.new ≡ onward (with_record (log_in w.now.tables.now) w.now.deviance w.now.tolerance counts.now (take (length counts.now) ps.now)) l.old }
+{
+    if let Ok(d) = *l {
+        *l = likelihood::with_record(w, counts, &ps[..counts.len()], d);
+    }
+}
+
+// The same for each model, by its row of ps.
+fn weigh_all<const N: usize>(
+    w: &Weighing<'_>,
+    counts: &[u64],
+    ps: &[[f64; 16]],
+    sums: &mut [Result<Diagnostics, Unfit>; N],
+)
+    requires { (length counts.now ≤ 16) × (length ps.now ≡ N) }
+    ensures { EachOnward N (λ k. with_record (log_in w.now.tables.now) w.now.deviance w.now.tolerance counts.now (take (length counts.now) (row_at ps.now k))) sums.old sums.new }
+{
+    for (k, l) in sums.iter_mut().enumerate() {
+        weigh(w, counts, &ps[k], l);
+    }
+}
+
+// A refusal, where all records before passed.
+fn refuse(x: Refusal, l: &mut Result<Diagnostics, Unfit>)
+    ensures { l.new ≡ onward (λ _. Err (Refused x)) l.old }
+{
+    if l.is_ok() {
+        *l = Err(Unfit::Refused(x));
+    }
+}
+
+// The same for each model.
+fn refuse_all<const N: usize>(x: Refusal, sums: &mut [Result<Diagnostics, Unfit>; N])
+    ensures { EachOnward N (λ k _. Err (Refused x)) sums.old sums.new }
+{
+    for l in sums.iter_mut() {
+        refuse(x, l);
+    }
+}
+
+// Adds record r's terms under each model, where all records before it passed. `room` has room for a sequence. There are two models at most: an array of rows
+// for each has to have a size.
+fn add_record<const N: usize>(
     c: &Records<'_, '_>,
-    m: &Model<'_>,
+    models: &[Model<'_>],
     r: usize,
     room: &mut [usize],
-    d: Diagnostics,
-) -> Result<Diagnostics, Unfit>
-    requires { (r < c.now.card.now.header.records) × Kept c.now m.now × (64 ≤ length room.old) }
-    ensures { result ≡ step_of c.now m.now.numbers.now r d }
+    sums: &mut [Result<Diagnostics, Unfit>; N],
+)
+    requires { (r < c.now.card.now.header.records) × (N ≤ 2) × (length models.now ≡ N) × AllKept c.now models.now × (64 ≤ length room.old) }
+    ensures { AllAdded c.now models.now r sums.old sums.new }
 {
     let card = c.card;
     let h = card.header;
     let n = card.sequence_length(r);
     let sequence = &mut room[..n];
     load_sequence(card, r, sequence);
-    gate_set::check_sequence(sequence, h.gates)?;
+    if let Err(x) = gate_set::check_sequence(sequence, h.gates) {
+        refuse_all(x, sums);
+        return;
+    }
     let mut counts_room = [0u64; 16];
     let counts = &mut counts_room[..h.effects];
     load_counts(card, r, counts);
-    let mut ps_room = [0.0f64; 16];
-    let ps = &mut ps_room[..h.effects];
-    gate_set::probabilities(m.numbers, m.columns, sequence, h.dimension, h.effects, ps);
-    likelihood::with_record(&c.weighing, counts, ps, d)
+    let mut ps = [[0.0; 16]; N];
+    gate_set::probabilities_under(models, sequence, h.dimension, h.effects, &mut ps);
+    weigh_all(&c.weighing, counts, &ps, sums);
 }
 
-fn add_records(c: &Records<'_, '_>, m: &Model<'_>) -> Result<Diagnostics, Unfit>
-    requires { Kept c.now m.now }
-    ensures { result ≡ all_of c.now m.now.numbers.now }
+// Whether no model goes on.
+fn all_ended<const N: usize>(sums: &[Result<Diagnostics, Unfit>; N]) -> bool
+    ensures { IsTrue result ↔ EachIndex sums.now (λ k. is_err (sum_at sums.now k) ≡ true) }
+{
+    sums.iter().all(|l| l.is_err())
+}
+
+// All records, until no model goes on.
+fn add_records<const N: usize>(
+    c: &Records<'_, '_>,
+    models: &[Model<'_>],
+) -> [Result<Diagnostics, Unfit>; N]
+    requires { (N ≤ 2) × (length models.now ≡ N) × AllKept c.now models.now }
+    ensures { AllSummed c.now models.now result }
 {
     let mut room = [0usize; 64];
-    let mut sum = Diagnostics {
+    let none = Ok(Diagnostics {
         log_likelihood: 0.0,
         deviance: 0.0,
-    };
+    });
+    let mut sums = [none; N];
+    // By number: a record is words of the card and no value, and the loop may end before the last.
     for r in 0..c.card.header.records {
-        sum = add_record(c, m, r, &mut room, sum)?;
+        if all_ended(&sums) {
+            return sums;
+        }
+        add_record(c, models, r, &mut room, &mut sums);
     }
-    Ok(sum)
+    sums
+}
+
+// The likelihoods under models whose gates stand by columns.
+fn likelihoods<const N: usize>(
+    card: &Card<'_>,
+    models: &[Model<'_>],
+    deviance: bool,
+    tolerance: f64,
+) -> [Result<Diagnostics, Unfit>; N]
+    requires { Sequences card.now.bytes.now card.now.header × (N ≤ 2) × (length models.now ≡ N) × AllColumned card.now.header models.now }
+    ensures { AllFitted deviance tolerance card.now.bytes.now card.now.header models.now result }
+{
+    let tables = LnTables::new();
+    let weighing = Weighing {
+        tables: &tables,
+        deviance,
+        tolerance,
+    };
+    let records = Records {
+        card: &*card,
+        weighing,
+    };
+    add_records(&records, models)
 }
 
 // The likelihood of a card's records under the model with these numbers; its gates go by columns to the front of `columns`.
@@ -88,7 +177,7 @@ pub fn fit_diagnostics(
     tolerance: f64,
     columns: &mut [f64],
 ) -> Result<Diagnostics, Unfit>
-    requires { ((r : ℕ) → r < card.now.header.records → Sequence card.now.bytes.now card.now.header r) × (model_numbers card.now.header ≤ length model.now)
+    requires { Sequences card.now.bytes.now card.now.header × (model_numbers card.now.header ≤ length model.now)
         × (card.now.header.gates * (card.now.header.dimension * card.now.header.dimension) ≤ length columns.old) }
     ensures { (result ≡ likelihood_of deviance tolerance card.now.bytes.now card.now.header model.now)
         × (columns.new ≡ over (columns_in card.now.header.dimension card.now.header.effects card.now.header.gates model.now) columns.old) }
@@ -96,113 +185,26 @@ pub fn fit_diagnostics(
     let h = card.header;
     let size = h.gates * (h.dimension * h.dimension);
     gate_set::gates_by_columns(model, h.dimension, h.effects, h.gates, columns);
-    let tables = logarithm::tables();
-    let weighing = Weighing {
-        tables: &tables,
-        deviance,
-        tolerance,
-    };
-    let records = Records {
-        card: &*card,
-        weighing,
-    };
     let m = Model {
         numbers: &*model,
         columns: &columns[..size],
     };
-    add_records(&records, &m)
+    let fits: [_; 1] = likelihoods(card, &[m], deviance, tolerance);
+    fits[0]
 }
 
-// The likelihoods of two models.
-#[derive(Clone, Copy)]
-pub struct Both {
-    pub first: Result<Diagnostics, Unfit>,
-    pub second: Result<Diagnostics, Unfit>,
-}
-
-// One record more, of these counts and probabilities, where all before it passed.
-fn weigh(
-    w: &Weighing<'_>,
-    counts: &[u64],
-    ps: &[f64],
-    l: Result<Diagnostics, Unfit>,
-) -> Result<Diagnostics, Unfit>
-    requires { length counts.now ≤ length ps.now }
-    ensures { result ≡ onward (with_record (log_in w.now.tables.now) w.now.deviance w.now.tolerance counts.now ps.now) l }
+// The same for two, without the deviance. They are put into an array here: beside what their references were lent from that gets no proof.
+fn both<'a>(
+    card: &Card<'_>,
+    first: Model<'a>,
+    second: Model<'a>,
+    tolerance: f64,
+) -> [Result<Diagnostics, Unfit>; 2]
+    requires { Sequences card.now.bytes.now card.now.header
+        × Columned card.now.header first.numbers.now first.columns.now × Columned card.now.header second.numbers.now second.columns.now }
+    ensures { result ≡ likelihood_of false tolerance card.now.bytes.now card.now.header first.entry.numbers.now ∷ (likelihood_of false tolerance card.now.bytes.now card.now.header second.entry.numbers.now ∷ []) }
 {
-    likelihood::with_record(w, counts, ps, l?)
-}
-
-// A refusal, where all records before passed.
-fn refuse(x: Refusal, l: Result<Diagnostics, Unfit>) -> Result<Diagnostics, Unfit>
-    ensures { result ≡ onward (λ _. Err (Refused x)) l }
-{
-    l.and(Err(Unfit::Refused(x)))
-}
-
-// Adds record r's terms under both models, each where all records before it passed.
-fn add_both(c: &Records<'_, '_>, p: &Pair<'_>, r: usize, room: &mut [usize], b: Both) -> Both
-    requires { (r < c.now.card.now.header.records) × Kept c.now p.now.first × Kept c.now p.now.second × (64 ≤ length room.old) }
-    ensures { (result.first ≡ onward (step_of c.now p.now.first.numbers.now r) b.first) × (result.second ≡ onward (step_of c.now p.now.second.numbers.now r) b.second) }
-{
-    let card = c.card;
-    let h = card.header;
-    let m = p.first;
-    let o = p.second;
-    let n = card.sequence_length(r);
-    let sequence = &mut room[..n];
-    load_sequence(card, r, sequence);
-    if let Err(x) = gate_set::check_sequence(sequence, h.gates) {
-        return Both {
-            first: refuse(x, b.first),
-            second: refuse(x, b.second),
-        };
-    }
-    let mut counts_room = [0u64; 16];
-    let counts = &mut counts_room[..h.effects];
-    load_counts(card, r, counts);
-    let mut ps_room = [0.0f64; 16];
-    let ps = &mut ps_room[..h.effects];
-    let mut qs_room = [0.0f64; 16];
-    let qs = &mut qs_room[..h.effects];
-    gate_set::probabilities_both(
-        m.numbers,
-        m.columns,
-        o.numbers,
-        o.columns,
-        sequence,
-        h.dimension,
-        h.effects,
-        ps,
-        qs,
-    );
-    Both {
-        first: weigh(&c.weighing, counts, ps, b.first),
-        second: weigh(&c.weighing, counts, qs, b.second),
-    }
-}
-
-// All records, until neither model goes on.
-fn add_records_both(c: &Records<'_, '_>, p: &Pair<'_>) -> Both
-    requires { Kept c.now p.now.first × Kept c.now p.now.second }
-    ensures { (result.first ≡ all_of c.now p.now.first.numbers.now) × (result.second ≡ all_of c.now p.now.second.numbers.now) }
-{
-    let mut room = [0usize; 64];
-    let none = Ok(Diagnostics {
-        log_likelihood: 0.0,
-        deviance: 0.0,
-    });
-    let mut b = Both {
-        first: none,
-        second: none,
-    };
-    for r in 0..c.card.header.records {
-        if b.first.is_err() & b.second.is_err() {
-            return b;
-        }
-        b = add_both(c, p, r, &mut room, b);
-    }
-    b
+    likelihoods(card, &[first, second], false, tolerance)
 }
 
 // The likelihoods of a card's records under two models, without the deviance, each as `fit_diagnostics` has it. A record is read once for both.
@@ -213,26 +215,16 @@ pub fn fit_diagnostics_both<'a>(
     tolerance: f64,
     columns: &'a mut [f64],
     others: &'a mut [f64],
-) -> Both
-    requires { ((r : ℕ) → r < card.now.header.records → Sequence card.now.bytes.now card.now.header r) × (model_numbers card.now.header ≤ length model.now) × (model_numbers card.now.header ≤ length other.now)
+) -> [Result<Diagnostics, Unfit>; 2]
+    requires { Sequences card.now.bytes.now card.now.header × (model_numbers card.now.header ≤ length model.now) × (model_numbers card.now.header ≤ length other.now)
         × (card.now.header.gates * (card.now.header.dimension * card.now.header.dimension) ≤ length columns.old) × (card.now.header.gates * (card.now.header.dimension * card.now.header.dimension) ≤ length others.old) }
-    ensures { (result.first ≡ likelihood_of false tolerance card.now.bytes.now card.now.header model.now) × (result.second ≡ likelihood_of false tolerance card.now.bytes.now card.now.header other.now)
+    ensures { (result ≡ likelihood_of false tolerance card.now.bytes.now card.now.header model.now ∷ (likelihood_of false tolerance card.now.bytes.now card.now.header other.now ∷ []))
         × (columns.new ≡ over (columns_in card.now.header.dimension card.now.header.effects card.now.header.gates model.now) columns.old) × (others.new ≡ over (columns_in card.now.header.dimension card.now.header.effects card.now.header.gates other.now) others.old) }
 {
     let h = card.header;
     let size = h.gates * (h.dimension * h.dimension);
     gate_set::gates_by_columns(model, h.dimension, h.effects, h.gates, columns);
     gate_set::gates_by_columns(other, h.dimension, h.effects, h.gates, others);
-    let tables = logarithm::tables();
-    let weighing = Weighing {
-        tables: &tables,
-        deviance: false,
-        tolerance,
-    };
-    let records = Records {
-        card: &*card,
-        weighing,
-    };
     let first = Model {
         numbers: &*model,
         columns: &columns[..size],
@@ -241,5 +233,5 @@ pub fn fit_diagnostics_both<'a>(
         numbers: &*other,
         columns: &others[..size],
     };
-    add_records_both(&records, &Pair { first, second })
+    both(card, first, second, tolerance)
 }

@@ -1,8 +1,7 @@
-// What the likelihood of a card's records is worked out from, and the room for one record.
+// What the likelihood of a card's records is worked out from.
 #![tactic(auto)]
 
-ghost use Rattle.std.specs.Prelude.{ℕ, ◌<◌};
-ghost use Rattle.card_parts.specs.Parts.{Sequence};
+ghost use Rattle.card_parts.specs.Parts.{Sequences};
 
 use card_parts::Card;
 use likelihood::Weighing;
@@ -12,19 +11,5 @@ use likelihood::Weighing;
 pub struct Records<'a, 'b> {
     pub card: &'a Card<'a>,
     pub weighing: Weighing<'b>,
-    ghost sequences: { (r : ℕ) → r < card.now.header.records → Sequence card.now.bytes.now card.now.header r },
-}
-
-// A model: its numbers, and its gates by columns.
-#[derive(Clone, Copy)]
-pub struct Model<'a> {
-    pub numbers: &'a [f64],
-    pub columns: &'a [f64],
-}
-
-// Two models, which are weighed in one pass.
-#[derive(Clone, Copy)]
-pub struct Pair<'a> {
-    pub first: Model<'a>,
-    pub second: Model<'a>,
+    ghost sequences: { Sequences card.now.bytes.now card.now.header },
 }

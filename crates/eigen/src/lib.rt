@@ -43,6 +43,7 @@ fn run(
 {
     let mut notes = Notes::<256>::of(a, n);
     let limit = tolerance * magnitudes::scale(a, n);
+    // So many at most: nothing is gone over.
     for _ in 0..rotations {
         let g = notes.find(a, n);
         if g.best <= limit {
@@ -64,6 +65,7 @@ fn unit_row(v: &mut [f64], n: usize, i: usize)
     requires { (length v.old ≡ 2 * (n * n)) × (i < n) }
     ensures { entries v.new ≡ laid_row n spec.unit_at i (entries v.old) }
 {
+    // By places, here and below: see crate entries.
     for j in 0..n {
         entries::write(v, n, i, j, unit_at(i, j));
     }

@@ -83,6 +83,7 @@ fn keep_rows(work: &mut [f64], pivot: &[f64], n: usize, k: usize)
     ensures { work.new ≡ fold n (λ i. on_row (2 * n + 2) i (kept_row n k pivot.now i)) work.old }
 {
     let w = 2 * n + 2;
+    // By places: see `matrix::row`.
     for i in 0..n {
         keep_row(&mut work[row(i, w)], pivot, n, k, i);
     }

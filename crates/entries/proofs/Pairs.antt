@@ -1,12 +1,13 @@
 -- Entries as pairs of numbers: how many there are, one that is read, one that is stored. Assumes nothing.
 use mathlib.Core.Path.{◌≡◌, refl, sym, ◌∙◌, ap}
 use mathlib.Core.List.{List, [], ◌∷◌}
-use Prim.Native.Nat.{ℕ, zero, suc, ◌+◌, ◌*◌, ◌<◌}
+use Prim.Native.Nat.{ℕ, zero, suc, ◌+◌, ◌*◌, ◌<◌, ◌≤◌}
 use native.Mathlib.Nat.{mul-suc}
 use native.Mathlib.Numerals.{add-one}
 use native.Mathlib.Omega.{arith}
 use lib.ListN.{length, get_or, set}
 use lib.Ieee.{Float, nan}
+use Rattle.std.specs.Simd.{first_chunks}
 use Rattle.complex.specs.declared.Complex.{Complex}
 use Rattle.entries.specs.Entries.{entries, parts_of, nowhere}
 
@@ -41,6 +42,16 @@ get-entry l k h = rw (add-one, twice-is) (go l k (omega (arith, twice-is k)))
     go (x ∷ []) (suc k) h = absurd (omega arith)
     go (x ∷ y ∷ l) zero h = refl
     go (x ∷ y ∷ l) (suc k) h = go l k (omega arith)
+
+-- and chunk k of two
+pub of-chunk : (m : ℕ) (l : List Float) (k : ℕ) → k < m → 2 * m ≤ length l
+    → record { re = get_or (get_or (first_chunks 2 m l) k []) 0 nan; im = get_or (get_or (first_chunks 2 m l) k []) 1 nan } ≡ get_or (entries l) k nowhere
+unfolding entries
+of-chunk zero l k h g = absurd (omega arith)
+of-chunk (suc m) [] k h g = absurd (omega arith)
+of-chunk (suc m) (x ∷ []) k h g = absurd (omega arith)
+of-chunk (suc m) (x ∷ y ∷ l) zero h g = refl
+of-chunk (suc m) (x ∷ y ∷ l) (suc k) h g = of-chunk m l k (omega arith) (omega arith)
 
 pub set-entry : (l : List Float) (k : ℕ) (z : Complex) → 2 * k + 1 < length l → entries (set (set l (2 * k) z.re) (2 * k + 1) z.im) ≡ set (entries l) k z
 unfolding entries twice

@@ -1,4 +1,4 @@
-// Complex matrices in slices of numbers.
+// Complex matrices in slices of numbers, real and imaginary part of each entry. Loops over them go by places, as an entry is two numbers of the slice.
 #![tactic(auto)]
 
 ghost use Rattle.std.specs.Prelude.{◌≡◌, ◌+◌, ◌*◌, ◌<◌, length, get_or, set};

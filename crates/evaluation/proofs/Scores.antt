@@ -1,8 +1,9 @@
--- No score depends on the deviance. Assumes nothing.
+-- No score depends on the deviance; and two scores in a list. Assumes nothing.
 use Rattle.std.proofs.Common.{Err, Ok, Some}
 use mathlib.Core.Path.{◌≡◌, ap, ◌∙◌}
 use mathlib.Core.Bool.{true, false}
-use mathlib.Core.List.{List}
+use mathlib.Core.List.{List, [], ◌∷◌}
+use lib.ListN.{get_or}
 use Prim.Native.Nat.{ℕ}
 use lib.Ieee.{Float}
 use Rattle.lists.proofs.Choices.{yes}
@@ -17,6 +18,14 @@ use Rattle.diagnostics.proofs.Models.{likelihood-alike}
 use Rattle.descent.specs.declared.GstOptimizerConfig.{GstOptimizerConfig}
 use Rattle.descent.specs.Fit.{Evaluated, Job, model_of, objective_of, scored, evaluate}
 use Rattle.objective.specs.Job.{job_by}
+
+-- the entries of a list of two
+module _ {A : Type 0} (z a b : A) (l : List A) (e : l ≡ a ∷ (b ∷ [])) where
+  pub first_of_two : get_or l 0 z ≡ a
+  first_of_two = ap (λ (l : List A). get_or l 0 z) e
+
+  pub second_of_two : get_or l 1 z ≡ b
+  second_of_two = ap (λ (l : List A). get_or l 1 z) e
 
 module _ (J : Job) where
   scored-alike : (l k : Likelihood) (xs : List Float) → Alike l k → scored J l xs ≡ scored J k xs

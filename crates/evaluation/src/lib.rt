@@ -1,16 +1,15 @@
 // Coordinates evaluated, and the gradient of the objective by finite differences.
 #![tactic(auto)]
 
-ghost use Rattle.std.specs.Prelude.{◌≡◌, ◌≤◌, ◌<◌, true, false, length};
-ghost use Rattle.numbers.specs.Slice.{all_finite};
+ghost use Rattle.std.specs.Prelude.{◌≡◌, ◌≤◌, ◌<◌, [], ◌∷◌, false, length, take};
+ghost use Rattle.model_words.specs.Words.{model_numbers};
 ghost use Rattle.diagnostics.specs.Diagnostics.{likelihood_of};
 ghost use Rattle.descent.specs.Fit as spec;
-ghost use Rattle.objective.specs.Job.{slopes_of};
+ghost use Rattle.objective.specs.Job.{Roomy, slopes_of};
 ghost use Rattle.objective.specs.Tasks.{job_in};
 
-use diagnostics::Both;
 use likelihood::{Diagnostics, Unfit};
-use objective::{Task, Work, fill, objective};
+use objective::{Task, fill, objective};
 use refusal::{Reason, Refusal};
 
 // What xs gives by the likelihood of its model: none where the probabilities fail.
@@ -19,48 +18,47 @@ fn score(t: &Task<'_>, l: Result<Diagnostics, Unfit>, xs: &[f64]) -> Result<Opti
     ensures { result ≡ spec.scored (job_in t.now) l xs.now }
 {
     match l {
-        Ok(d) => Ok(Some(objective(t, d.log_likelihood, xs))),
+        Ok(d) => Ok(Some(objective(t.config, t.anchor, d.log_likelihood, xs))),
         Err(Unfit::Probabilities) => Ok(None),
         Err(Unfit::Refused(r)) => Err(r),
     }
 }
 
-// The likelihood of the model that has xs, without the deviance, which no objective has.
-fn likelihood_at(
+// The likelihood of the model that has xs, which is left at the front of `model`.
+pub fn likelihood_at(
+    t: &Task<'_>,
+    xs: &[f64],
+    deviance: bool,
+    model: &mut [f64],
+    columns: &mut [f64],
+) -> Result<Diagnostics, Unfit>
+    requires { (length xs.now ≡ length t.now.places.now) × Roomy t.now.card.now.header model.old columns.old }
+    ensures { (take (model_numbers t.now.card.now.header) model.new ≡ spec.model_of (job_in t.now) xs.now)
+        × (result ≡ likelihood_of deviance t.now.config.probability_tolerance t.now.card.now.bytes.now t.now.card.now.header (spec.model_of (job_in t.now) xs.now)) }
+{
+    let m = &mut model[..model_words::model_numbers(t.card.header)];
+    fill(t.card, t.places, xs, m);
+    diagnostics::fit_diagnostics(t.card, m, deviance, t.config.probability_tolerance, columns)
+}
+
+// The coordinates xs evaluated. The deviance, which no objective has, is left out. The room is two slices: each function that takes a struct which lends
+// both would have to say that its fields keep their references and their lengths.
+pub fn evaluate(
     t: &Task<'_>,
     xs: &[f64],
     model: &mut [f64],
     columns: &mut [f64],
-) -> Result<Diagnostics, Unfit>
-    requires { (length xs.now ≡ length t.now.places.now) × (2320 ≤ length model.old) × (2048 ≤ length columns.old) }
-    ensures { result ≡ likelihood_of false t.now.config.probability_tolerance t.now.card.now.bytes.now t.now.card.now.header (spec.model_of (job_in t.now) xs.now) }
-{
-    let n = model_words::model_numbers(t.card.header);
-    let m = &mut model[..n];
-    fill(t, xs, m);
-    diagnostics::fit_diagnostics(t.card, m, false, t.config.probability_tolerance, columns)
-}
-
-// The coordinates xs evaluated.
-pub fn evaluate(t: &Task<'_>, xs: &[f64], work: &mut Work) -> Result<Option<f64>, Refusal>
-    requires { length xs.now ≡ length t.now.places.now }
+) -> Result<Option<f64>, Refusal>
+    requires { (length xs.now ≡ length t.now.places.now) × Roomy t.now.card.now.header model.old columns.old }
     ensures { result ≡ spec.evaluate (job_in t.now) xs.now }
 {
     if !numbers::all_finite(xs) {
         return Err(Refusal::NonFinite);
     }
-    let Work { model, columns } = work;
-    score(t, likelihood_at(t, xs, model, columns), xs)
+    score(t, likelihood_at(t, xs, false, model, columns), xs)
 }
 
-// The probes on both sides of a point, evaluated.
-#[derive(Clone, Copy)]
-struct Probes {
-    right: Result<Option<f64>, Refusal>,
-    left: Result<Option<f64>, Refusal>,
-}
-
-// The same of two models, whose likelihoods are worked out in one pass over the records.
+// The likelihoods of the models that have xs and ys, worked out in one pass over the records.
 fn likelihoods_at(
     t: &Task<'_>,
     xs: &[f64],
@@ -69,55 +67,41 @@ fn likelihoods_at(
     columns: &mut [f64],
     other: &mut [f64],
     others: &mut [f64],
-) -> Both
-    requires { (length xs.now ≡ length t.now.places.now) × (length ys.now ≡ length t.now.places.now) × (2320 ≤ length model.old) × (2048 ≤ length columns.old) × (2320 ≤ length other.old) × (2048 ≤ length others.old) }
-    ensures { (result.first ≡ likelihood_of false t.now.config.probability_tolerance t.now.card.now.bytes.now t.now.card.now.header (spec.model_of (job_in t.now) xs.now))
-        × (result.second ≡ likelihood_of false t.now.config.probability_tolerance t.now.card.now.bytes.now t.now.card.now.header (spec.model_of (job_in t.now) ys.now)) }
+) -> [Result<Diagnostics, Unfit>; 2]
+    requires { (length xs.now ≡ length t.now.places.now) × (length ys.now ≡ length t.now.places.now) × Roomy t.now.card.now.header model.old columns.old × Roomy t.now.card.now.header other.old others.old }
+    ensures { result ≡ likelihood_of false t.now.config.probability_tolerance t.now.card.now.bytes.now t.now.card.now.header (spec.model_of (job_in t.now) xs.now)
+        ∷ (likelihood_of false t.now.config.probability_tolerance t.now.card.now.bytes.now t.now.card.now.header (spec.model_of (job_in t.now) ys.now) ∷ []) }
 {
     let n = model_words::model_numbers(t.card.header);
     let m = &mut model[..n];
     let o = &mut other[..n];
-    fill(t, xs, m);
-    fill(t, ys, o);
+    fill(t.card, t.places, xs, m);
+    fill(t.card, t.places, ys, o);
     let tolerance = t.config.probability_tolerance;
     diagnostics::fit_diagnostics_both(t.card, m, o, tolerance, columns, others)
 }
 
-// Two coordinate lists that are finite, evaluated.
-fn evaluate_finite(
+// Two coordinate lists evaluated: together where both are finite, and otherwise one after the other.
+fn evaluate_both(
     t: &Task<'_>,
     xs: &[f64],
     ys: &[f64],
-    right: &mut Work,
-    left: &mut Work,
-) -> Probes
-    requires { (length xs.now ≡ length t.now.places.now) × (length ys.now ≡ length t.now.places.now) × (all_finite xs.now ≡ true) × (all_finite ys.now ≡ true) }
-    ensures { (result.right ≡ spec.evaluate (job_in t.now) xs.now) × (result.left ≡ spec.evaluate (job_in t.now) ys.now) }
-{
-    let Work { model, columns } = right;
-    let Work {
-        model: other,
-        columns: others,
-    } = left;
-    let b = likelihoods_at(t, xs, ys, model, columns, other, others);
-    Probes {
-        right: score(t, b.first, xs),
-        left: score(t, b.second, ys),
-    }
-}
-
-// Two coordinate lists evaluated: together where both are finite, and otherwise one after the other.
-fn evaluate_both(t: &Task<'_>, xs: &[f64], ys: &[f64], right: &mut Work, left: &mut Work) -> Probes
-    requires { (length xs.now ≡ length t.now.places.now) × (length ys.now ≡ length t.now.places.now) }
-    ensures { (result.right ≡ spec.evaluate (job_in t.now) xs.now) × (result.left ≡ spec.evaluate (job_in t.now) ys.now) }
+    model: &mut [f64],
+    columns: &mut [f64],
+    other: &mut [f64],
+    others: &mut [f64],
+) -> [Result<Option<f64>, Refusal>; 2]
+    requires { (length xs.now ≡ length t.now.places.now) × (length ys.now ≡ length t.now.places.now) × Roomy t.now.card.now.header model.old columns.old × Roomy t.now.card.now.header other.old others.old }
+    ensures { result ≡ spec.evaluate (job_in t.now) xs.now ∷ (spec.evaluate (job_in t.now) ys.now ∷ []) }
 {
     if numbers::all_finite(xs) && numbers::all_finite(ys) {
-        return evaluate_finite(t, xs, ys, right, left);
+        let [r, l] = likelihoods_at(t, xs, ys, model, columns, other, others);
+        return [score(t, r, xs), score(t, l, ys)];
     }
-    Probes {
-        right: evaluate(t, xs, right),
-        left: evaluate(t, ys, left),
-    }
+    [
+        evaluate(t, xs, model, columns),
+        evaluate(t, ys, other, others),
+    ]
 }
 
 fn usable(v: f64) -> Result<f64, Refusal>
@@ -130,12 +114,15 @@ fn usable(v: f64) -> Result<f64, Refusal>
 }
 
 // The derivative from the probes on both sides, h away, where the objective is o.
-fn difference(o: f64, h: f64, p: Probes) -> Result<f64, Refusal>
-    ensures { result ≡ spec.difference_of o h p.right p.left }
+fn difference(
+    o: f64,
+    h: f64,
+    right: Result<Option<f64>, Refusal>,
+    left: Result<Option<f64>, Refusal>,
+) -> Result<f64, Refusal>
+    ensures { result ≡ spec.difference_of o h right left }
 {
-    let right = p.right?;
-    let left = p.left?;
-    match (right, left) {
+    match (right?, left?) {
         (Some(r), Some(l)) => usable((r - l) / (2.0 * h)),
         (Some(r), None) => usable((r - o) / h),
         (None, Some(l)) => usable((o - l) / h),
@@ -149,10 +136,12 @@ fn derivative(
     xs: &[f64],
     o: f64,
     i: usize,
-    right: &mut Work,
-    left: &mut Work,
+    model: &mut [f64],
+    columns: &mut [f64],
+    other: &mut [f64],
+    others: &mut [f64],
 ) -> Result<f64, Refusal>
-    requires { (length xs.now ≡ length t.now.places.now) × (i < length t.now.places.now) }
+    requires { (length xs.now ≡ length t.now.places.now) × (i < length t.now.places.now) × Roomy t.now.card.now.header model.old columns.old × Roomy t.now.card.now.header other.old others.old }
     ensures { result ≡ spec.derivative (job_in t.now) xs.now o i }
 {
     let x = xs[i];
@@ -166,7 +155,8 @@ fn derivative(
     b.copy_from_slice(xs);
     a[i] = x + e;
     b[i] = x - e;
-    difference(o, e, evaluate_both(t, a, b, right, left))
+    let [r, l] = evaluate_both(t, a, b, model, columns, other, others);
+    difference(o, e, r, l)
 }
 
 // The gradient at xs, where the objective is o, into g, up to the first derivative that is unusable. The probes on the right use the room that is lent.
@@ -175,14 +165,16 @@ pub fn gradient(
     xs: &[f64],
     o: f64,
     g: &mut [f64],
-    work: &mut Work,
+    model: &mut [f64],
+    columns: &mut [f64],
 ) -> Result<(), Refusal>
-    requires { (length xs.now ≡ length t.now.places.now) × (length g.old ≡ length t.now.places.now) }
+    requires { (length xs.now ≡ length t.now.places.now) × (length g.old ≡ length t.now.places.now) × Roomy t.now.card.now.header model.old columns.old }
     ensures { slopes_of result g.new ≡ spec.gradient (job_in t.now) xs.now o }
 {
-    let mut left = Work::new();
+    let mut other = [0.0; 2320];
+    let mut others = [0.0; 2048];
     for (i, slope) in g.iter_mut().enumerate() {
-        *slope = derivative(t, xs, o, i, work, &mut left)?;
+        *slope = derivative(t, xs, o, i, model, columns, &mut other, &mut others)?;
     }
     Ok(())
 }

@@ -1,11 +1,10 @@
 // The entry points for C and Rust: numbers and slices only. include/mintshuttle.h says the same in C's terms.
 #![tactic(auto)]
 
-ghost use Rattle.std.specs.Prelude.{◌≡◌, ◌++◌, ◌≤◌, length, drop};
-ghost use Rattle.lists.specs.Build.{build};
-ghost use Rattle.numbers.specs.Slice.{at};
+ghost use Rattle.std.specs.Prelude.{◌≡◌};
+ghost use Rattle.std.specs.Float.Ieee.{Float};
 ghost use Rattle.root.specs.Root.{sqrt};
-ghost use Rattle.logarithm.specs.Steps.{ln, ln_by};
+ghost use Rattle.logarithm.specs.Steps.{ln};
 ghost use Rattle.library.specs.Entries.{probes_entry, setting_entry, apply_entry, choi_entry, probabilities_entry};
 ghost use Rattle.exports.specs.Exported.{AnyCall, Told, Exported, SheetExported, ReadExported, Mapped};
 
@@ -157,28 +156,16 @@ pub extern "C" fn mintshuttle_read(card: &[u8], answer: &mut [u64]) -> u64
     put_reading(card::read(card), answer)
 }
 
-fn roots(x: &[f64], n: usize, out: &mut [f64])
-    requires { (n ≤ length x.now) × (n ≤ length out.old) }
-    ensures { out.new ≡ build n (λ i. sqrt (at x.now i)) ++ drop n out.old }
+// f of each number, as many as both slices have; how many that is.
+fn map_all<F: Fn(f64) -> f64>(x: &[f64], out: &mut [f64], f: F) -> usize
+    requires { F.IsAlwaysCallable f }
+    ensures { (g : Float → Float) → ((v r : Float) → F.post f v r → r ≡ g v) → Mapped g x.now out.old out.new result }
 {
-    for i in 0..n {
-        out[i] = root::sqrt(x[i]);
+    let n = x.len().min(out.len());
+    for (i, y) in out[..n].iter_mut().enumerate() {
+        *y = f(x[i]);
     }
-}
-
-fn logarithms<'a>(
-    quotients: &'a [f64; 257],
-    remainders: &'a [f64; 257],
-    x: &[f64],
-    n: usize,
-    out: &mut [f64],
-)
-    requires { (n ≤ length x.now) × (n ≤ length out.old) }
-    ensures { out.new ≡ build n (λ i. ln_by (at quotients.now) (at remainders.now) (at x.now i)) ++ drop n out.old }
-{
-    for i in 0..n {
-        out[i] = logarithm::ln_by(quotients, remainders, x[i]);
-    }
+    n
 }
 
 // The square root of each number.
@@ -186,9 +173,7 @@ fn logarithms<'a>(
 pub extern "C" fn mintshuttle_sqrt_all(x: &[f64], out: &mut [f64]) -> usize
     ensures { Mapped sqrt x.now out.old out.new result }
 {
-    let n = x.len().min(out.len());
-    roots(x, n, out);
-    n
+    map_all(x, out, |v| root::sqrt(v))
 }
 
 // The natural logarithm of each number.
@@ -196,8 +181,6 @@ pub extern "C" fn mintshuttle_sqrt_all(x: &[f64], out: &mut [f64]) -> usize
 pub extern "C" fn mintshuttle_ln_all(x: &[f64], out: &mut [f64]) -> usize
     ensures { Mapped ln x.now out.old out.new result }
 {
-    let n = x.len().min(out.len());
-    let t = logarithm::tables();
-    logarithms(&t.quotients, &t.remainders, x, n, out);
-    n
+    let t = logarithm::LnTables::new();
+    map_all(x, out, |v| t.ln(v))
 }

@@ -30,20 +30,13 @@ fn active_count(u: &[f64]) -> usize
     active
 }
 
-// The numbers of u added to s, one by one.
-fn sum_from(s: f64, u: &[f64]) -> f64
-    ensures { result ≡ fold (λ s x. s +ᶠ x) s u.now }
-{
-    u.iter().fold(s, |s, x| s + x)
-}
-
 // What is taken from each eigenvalue, u being their descending list.
 fn threshold(u: &[f64]) -> f64
     requires { length u.now ≤ 16 }
     ensures { result ≡ spec.threshold u.now }
 {
     let active = active_count(u);
-    excess(sum_from(-0.0, &u[..active]), active)
+    excess(u[..active].iter().sum(), active)
 }
 
 fn lower(w: &mut [f64], t: f64)

@@ -3,19 +3,21 @@
 
 ghost use Rattle.std.specs.Prelude.{◌≡◌, true, Some, Ok, map, ℕ, ◌≤◌, ◌<◌, length, get_or, take};
 ghost use Rattle.numbers.specs.Slice.{at};
-ghost use Rattle.card_parts.specs.Parts.{Sequence};
+ghost use Rattle.card_parts.specs.Parts.{Sequences};
 ghost use Rattle.model_words.specs.Words.{model_numbers, numbers_of};
 ghost use Rattle.diagnostics.specs.Diagnostics.{likelihood_of};
 ghost use Rattle.descent.specs.Fit as spec;
 ghost use Rattle.parameters.specs.Parameters.{config_of, places_of};
+ghost use Rattle.objective.specs.Job.{Roomy};
 ghost use Rattle.objective.specs.Tasks.{job_in};
 ghost use Rattle.steps.specs.Running.{point_of, state_of, keeps_norm, Normed, Underway};
 ghost use Rattle.fit.specs.Outcome.{job_of, shown_of, outcome_of};
 
 use card_parts::Card;
 use descent::GstTermination;
+use evaluation::likelihood_at;
 use likelihood::{Diagnostics, Unfit};
-use objective::{Task, Work};
+use objective::{Limited, Task, objective};
 use refusal::Refusal;
 use steps::{Running, run, slope_at};
 
@@ -59,39 +61,23 @@ fn diagnostics_in(l: Result<Diagnostics, Unfit>) -> Diagnostics
     })
 }
 
-// The likelihood of the model that has xs, which is left at the front of `model`.
-fn leave(
-    t: &Task<'_>,
-    xs: &[f64],
-    model: &mut [f64],
-    columns: &mut [f64],
-) -> Result<Diagnostics, Unfit>
-    requires { (length xs.now ≡ length t.now.places.now) × (2320 ≤ length model.old) × (2048 ≤ length columns.old) }
-    ensures { (take (model_numbers t.now.card.now.header) model.new ≡ spec.model_of (job_in t.now) xs.now)
-        × (result ≡ spec.Job.likelihood (job_in t.now) (spec.model_of (job_in t.now) xs.now)) }
-{
-    let n = model_words::model_numbers(t.card.header);
-    let m = &mut model[..n];
-    objective::fill(t, xs, m);
-    diagnostics::fit_diagnostics(t.card, m, true, t.config.probability_tolerance, columns)
-}
-
-// The sheet of a fit that stops at r, where the gradient's norm is z; its model is left at the front of the room.
+// The sheet of a fit that stops at r, where the gradient's norm is z; its model is left at the front of `model`. The counts have room for a step more,
+// which a step uses up: so `Underway` is no fact of every `Running`.
 fn show(
     t: &Task<'_>,
     initial: Diagnostics,
     stop: GstTermination,
     z: f64,
     r: &Running,
-    work: &mut Work,
+    model: &mut [f64],
+    columns: &mut [f64],
 ) -> Shown
-    requires { Underway r.now }
-    ensures { (take (model_numbers t.now.card.now.header) work.new.model ≡ spec.model_of (job_in t.now) (take (length t.now.places.now) r.now.coordinates))
+    requires { Underway r.now × Roomy t.now.card.now.header model.old columns.old }
+    ensures { (take (model_numbers t.now.card.now.header) model.new ≡ spec.model_of (job_in t.now) (take (length t.now.places.now) r.now.coordinates))
         × (result ≡ shown_of (job_in t.now) initial stop z (point_of (length t.now.places.now) r.now)) }
 {
     let p = t.places.len();
-    let Work { model, columns } = work;
-    let l = leave(t, &r.coordinates[..p], model, columns);
+    let l = likelihood_at(t, &r.coordinates[..p], true, model, columns);
     Shown {
         stop,
         steps: r.steps,
@@ -109,16 +95,16 @@ fn close(
     initial: Diagnostics,
     stop: GstTermination,
     r: &Running,
-    work: &mut Work,
+    model: &mut [f64],
+    columns: &mut [f64],
 ) -> Result<Shown, Refusal>
-    requires { Underway r.now }
-    ensures { outcome_of result (take (model_numbers t.now.card.now.header) work.new.model) ≡ spec.closed (job_in t.now) initial stop (point_of (length t.now.places.now) r.now) }
+    requires { Underway r.now × Roomy t.now.card.now.header model.old columns.old }
+    ensures { outcome_of result (take (model_numbers t.now.card.now.header) model.new) ≡ spec.closed (job_in t.now) initial stop (point_of (length t.now.places.now) r.now) }
 {
-    let mut room = [0.0; 64];
-    let g = &mut room[..t.places.len()];
-    let z = slope_at(t, r, g, work)?;
+    let mut g = [0.0; 64];
+    let z = slope_at(t, r, &mut g, model, columns)?;
     let k = reason(stop, z <= t.config.gradient_tolerance);
-    Ok(show(t, initial, k, z, r, work))
+    Ok(show(t, initial, k, z, r, model, columns))
 }
 
 // The same, where the last gradient may be the final one: then it is not worked out again.
@@ -127,15 +113,17 @@ fn stop_at(
     initial: Diagnostics,
     k: GstTermination,
     r: &Running,
-    work: &mut Work,
+    model: &mut [f64],
+    columns: &mut [f64],
 ) -> Result<Shown, Refusal>
-    requires { Underway r.now × Normed (job_in t.now) (point_of (length t.now.places.now) r.now) r.now.norm (Some k) }
-    ensures { outcome_of result (take (model_numbers t.now.card.now.header) work.new.model) ≡ spec.closed (job_in t.now) initial k (point_of (length t.now.places.now) r.now) }
+    requires { Underway r.now × Normed (job_in t.now) (point_of (length t.now.places.now) r.now) r.now.norm (Some k)
+        × Roomy t.now.card.now.header model.old columns.old }
+    ensures { outcome_of result (take (model_numbers t.now.card.now.header) model.new) ≡ spec.closed (job_in t.now) initial k (point_of (length t.now.places.now) r.now) }
 {
     if keeps_norm(k) {
-        return Ok(show(t, initial, k, r.norm, r, work));
+        return Ok(show(t, initial, k, r.norm, r, model, columns));
     }
-    close(t, initial, k, r, work)
+    close(t, initial, k, r, model, columns)
 }
 
 // The end of a fit that has stopped, or has reached the limit.
@@ -143,34 +131,44 @@ fn finish(
     t: &Task<'_>,
     initial: Diagnostics,
     r: &Running,
-    work: &mut Work,
+    model: &mut [f64],
+    columns: &mut [f64],
 ) -> Result<Shown, Refusal>
-    requires { Underway r.now × Normed (job_in t.now) (point_of (length t.now.places.now) r.now) r.now.norm r.now.stop }
-    ensures { outcome_of result (take (model_numbers t.now.card.now.header) work.new.model) ≡ spec.finished (job_in t.now) initial (state_of (length t.now.places.now) r.now) }
+    requires { Underway r.now × Normed (job_in t.now) (point_of (length t.now.places.now) r.now) r.now.norm r.now.stop
+        × Roomy t.now.card.now.header model.old columns.old }
+    ensures { outcome_of result (take (model_numbers t.now.card.now.header) model.new) ≡ spec.finished (job_in t.now) initial (state_of (length t.now.places.now) r.now) }
 {
+    let limit = GstTermination::MaximumIterations;
     match r.stop {
-        None => close(t, initial, GstTermination::MaximumIterations, r, work),
-        Some(k) => stop_at(t, initial, k, r, work),
+        None => close(t, initial, limit, r, model, columns),
+        Some(k) => stop_at(t, initial, k, r, model, columns),
     }
 }
 
 // The fit from the card's model on, whose diagnostics are d.
-fn fit_from(t: &Task<'_>, d: Diagnostics, work: &mut Work) -> Result<Shown, Refusal>
-    requires { spec.Job.likelihood (job_in t.now) (numbers_of t.now.card.now.bytes.now t.now.card.now.header) ≡ Ok d }
-    ensures { outcome_of result (take (model_numbers t.now.card.now.header) work.new.model) ≡ spec.fit_of (job_in t.now) }
+fn fit_from(
+    limited: &Limited<'_>,
+    d: Diagnostics,
+    model: &mut [f64],
+    columns: &mut [f64],
+) -> Result<Shown, Refusal>
+    requires { (spec.Job.likelihood (job_in limited.now.task) (numbers_of limited.now.task.card.now.bytes.now limited.now.task.card.now.header) ≡ Ok d)
+        × Roomy limited.now.task.card.now.header model.old columns.old }
+    ensures { outcome_of result (take (model_numbers limited.now.task.card.now.header) model.new) ≡ spec.fit_of (job_in limited.now.task) }
 {
+    let t = &limited.task;
     let mut coordinates = [0.0; 64];
     coordinates[..t.places.len()].copy_from_slice(t.anchor);
     let start = Running {
         coordinates,
-        objective: objective::objective(t, d.log_likelihood, t.anchor),
+        objective: objective(t.config, t.anchor, d.log_likelihood, t.anchor),
         norm: 0.0,
         steps: 0,
         evaluations: 1,
         stop: None,
     };
-    let r = run(t, start, work)?;
-    finish(t, d, &r, work)
+    let r = run(limited, start, model, columns)?;
+    finish(t, d, &r, model, columns)
 }
 
 // The likelihood of the card's model, and its numbers at the coordinates' entries.
@@ -182,34 +180,38 @@ fn begin(
     model: &mut [f64],
     columns: &mut [f64],
 ) -> Result<Diagnostics, Unfit>
-    requires { (5 ≤ card.now.header.kind) × ((r : ℕ) → r < card.now.header.records → Sequence card.now.bytes.now card.now.header r)
+    requires { (5 ≤ card.now.header.kind) × Sequences card.now.bytes.now card.now.header
         × ((i : ℕ) → i < length places.now → get_or places.now i 0 < model_numbers card.now.header)
-        × (length anchor.old ≡ length places.now) × (2320 ≤ length model.old) × (2048 ≤ length columns.old) }
+        × (length anchor.old ≡ length places.now) × Roomy card.now.header model.old columns.old }
     ensures { (result ≡ likelihood_of true tolerance card.now.bytes.now card.now.header (numbers_of card.now.bytes.now card.now.header))
         × (anchor.new ≡ map (at (numbers_of card.now.bytes.now card.now.header)) places.now) }
 {
     let n = model_words::model_numbers(card.header);
     let m = &mut model[..n];
-    model_words::load_model(card.bytes, card.header, m);
+    model_words::load(card, m);
     numbers::gather(m, places, anchor);
     diagnostics::fit_diagnostics(card, m, true, tolerance, columns)
 }
 
-// The fit of a card whose coordinates have entries; the model that it ends at is left at the front of the room.
-pub fn reconstruct_gate_set(card: &Card<'_>, work: &mut Work) -> Result<Shown, Refusal>
-    requires { (card.now.header.kind ≡ 5) × (card.now.header.coordinates ≤ 64) × ((r : ℕ) → r < card.now.header.records → Sequence card.now.bytes.now card.now.header r)
+// The fit of a card whose coordinates have entries; the model that it ends at is left at the front of `model`.
+pub fn reconstruct_gate_set(
+    card: &Card<'_>,
+    model: &mut [f64],
+    columns: &mut [f64],
+) -> Result<Shown, Refusal>
+    requires { (card.now.header.kind ≡ 5) × (card.now.header.coordinates ≤ 64) × Sequences card.now.bytes.now card.now.header
         × ((i : ℕ) → i < card.now.header.coordinates → get_or (places_of card.now.bytes.now card.now.header) i 0 < model_numbers card.now.header)
-        × ((config_of card.now.bytes.now).max_backtracks ≤ 255) × ((config_of card.now.bytes.now).max_iterations ≤ 65535) }
-    ensures { outcome_of result (take (model_numbers card.now.header) work.new.model) ≡ spec.fit_of (job_of card.now.bytes.now card.now.header) }
+        × ((config_of card.now.bytes.now).max_backtracks ≤ 255) × ((config_of card.now.bytes.now).max_iterations ≤ 65535)
+        × Roomy card.now.header model.old columns.old }
+    ensures { outcome_of result (take (model_numbers card.now.header) model.new) ≡ spec.fit_of (job_of card.now.bytes.now card.now.header) }
 {
     let n = card.header.coordinates;
     let config = parameters::config_of(card.bytes);
     let mut places = [0usize; 64];
     let mut anchor = [0.0; 64];
-    parameters::load_places(card.bytes, card.header, &mut places);
+    parameters::load_places(card, &mut places);
     let p = &places[..n];
     let tolerance = config.probability_tolerance;
-    let Work { model, columns } = work;
     let d = begin(card, p, tolerance, &mut anchor[..n], model, columns)?;
     let task = Task {
         card: &*card,
@@ -217,5 +219,5 @@ pub fn reconstruct_gate_set(card: &Card<'_>, work: &mut Work) -> Result<Shown, R
         config,
         anchor: &anchor[..n],
     };
-    fit_from(&task, d, work)
+    fit_from(&Limited { task }, d, model, columns)
 }

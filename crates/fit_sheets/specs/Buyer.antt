@@ -8,9 +8,10 @@ use Rattle.card_places.specs.Places.{model_at, model_words}
 use Rattle.model_words.specs.Words.{vector_numbers}
 use Rattle.descent.specs.Fit.{Fitted}
 use Rattle.descent.specs.Claim.{listed, Claim}
+use Rattle.descent.specs.Stop.{stop_number, converged}
 use Rattle.parameters.specs.Parameters.{has_entry, place_of, places_of}
 use Rattle.fit.specs.Outcome.{job_of}
-use Rattle.fit_sheets.specs.Sheets.{stop_number, converged, fit_words}
+use Rattle.fit_sheets.specs.Sheets.{fit_words}
 
 -- the place among a model's words of gate g's name, and of the entry that a coordinate names
 abbrev pub name_place : Header → ℕ → ℕ

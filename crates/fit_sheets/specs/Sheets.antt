@@ -1,18 +1,15 @@
 -- The sheet of a fit, kind 5 (document 01): `fit R S E V`, six numbers, and the words of the model.
-use Rattle.std.specs.Prelude.{Ok, ℕ, ◌≤◌, ◌<◌, ◌≡◌, Bool, true, false, List, [], ◌∷◌, ◌++◌, Float}
+use Rattle.std.specs.Prelude.{Ok, ℕ, ◌≤◌, ◌<◌, ◌≡◌, List, [], ◌∷◌, ◌++◌, Float}
 use Rattle.numbers.specs.Word.{word_at}
 use Rattle.numbers.specs.Slice.{words_of}
 use Rattle.refusal.specs.Verdicts.{after}
 use Rattle.card_layout.specs.declared.Header.{Header}
 use Rattle.card_layout.specs.Limits.{most_iterations, most_backtracks}
-use Rattle.card_places.specs.Shape.{Shaped}
 use Rattle.card_parts.specs.Parts.{Sequence}
 use Rattle.card_places.specs.Places.{model_words}
 use Rattle.model.specs.Checked.{checked_of}
 use Rattle.model_words.specs.Words.{model_words_of}
 use Rattle.likelihood.specs.declared.Diagnostics.{Diagnostics}
-use Rattle.descent.specs.declared.GstTermination.{GstTermination}
-use Rattle.descent.specs.declared.GstTermination.TheVariants.{GradientTolerance, ObjectiveTolerance, MaximumIterations, LineSearchStalled}
 use Rattle.descent.specs.Fit.{Fitted, fitted, unfitted, fit_of}
 use Rattle.descent.specs.Fit as descent
 use Rattle.parameters.specs.Parameters.{request_verdict}
@@ -20,27 +17,12 @@ use Rattle.fit.specs.Outcome.{job_of}
 use Rattle.outcome.specs.declared.Answer.TheVariants.{Fit}
 use Rattle.outcome.specs.Outcome.{Outcome, refused}
 
--- what a fit asks of its card: its shape, and the limits of its controls and sequences (an accepted card of kind 5 has them)
+-- what a fit asks of its card beside its shape: its kind, and the limits of its controls and sequences (an accepted card of kind 5 has them)
 pub record FitRequest (s : List ℕ) (h : Header) : Type 0 where
-  pub shaped : Shaped s h
   pub kind : h.kind ≡ 5
   pub sequences : (r : ℕ) → r < h.records → Sequence s h r
   pub iterations : word_at s 1 ≤ most_iterations
   pub backtracks : word_at s 7 ≤ most_backtracks
-
--- R, document 01's number of a stopping reason
-abbrev pub stop_number : GstTermination → ℕ
-stop_number GradientTolerance = 1
-stop_number ObjectiveTolerance = 2
-stop_number MaximumIterations = 3
-stop_number LineSearchStalled = 4
-
--- V, the Rust's `converged`: a tolerance stopped the fit, and not a limit or a stalled search
-abbrev pub converged : GstTermination → Bool
-converged GradientTolerance = true
-converged ObjectiveTolerance = true
-converged MaximumIterations = false
-converged LineSearchStalled = false
 
 -- the six numbers before the model: log-likelihood and deviance at the start and at the end, the objective, the gradient's norm
 abbrev pub fit_numbers : Diagnostics → Diagnostics → Float → Float → List Float
@@ -51,7 +33,7 @@ unfoldable pub fit_words : List ℕ → Header → Fitted → List ℕ
 fit_words s h f = words_of 6 (fit_numbers f.initial f.final f.objective f.norm) ++ model_words_of s h f.model
 
 abbrev pub outcome_sheet : List ℕ → Header → descent.Outcome → Outcome
-outcome_sheet s h (fitted f) = record { answer = Ok (Fit (stop_number f.stop) f.steps f.evaluations (converged f.stop) (model_words h)); words = fit_words s h f }
+outcome_sheet s h (fitted f) = record { answer = Ok (Fit f.stop f.steps f.evaluations (model_words h)); words = fit_words s h f }
 outcome_sheet s h (unfitted r) = refused r
 
 -- the model is checked before the controls, the records and the coordinates

@@ -2,16 +2,15 @@
 use Prim.Native.Nat.{ℕ, ◌+◌, ◌-◌, ◌*◌, ◌≤◌, ◌<◌}
 use mathlib.Core.Path.{◌≡◌, sym, ap, ◌∙◌}
 use mathlib.Core.List.{List, ◌++◌}
-use native.Mathlib.Nat.{le_of_eq, suc-mul}
+use native.Mathlib.Nat.{suc-mul}
 use native.Mathlib.Numerals.{add-one}
 use native.Mathlib.Omega.{arith}
 use lib.ListN.{length, get_or, take, drop}
 use lib.Seq.{drop-drop}
 use lib.Ieee.{Float}
-use Rattle.lists.specs.Fold.{fold}
 use Rattle.lists.specs.Part.{part}
 use Rattle.lists.proofs.Filling.{length-build, build-same}
-use Rattle.lists.proofs.Folding.{fold_more, fold_same}
+use Rattle.lists.proofs.Folding.{fold_same}
 use Rattle.lists.proofs.Joined.{Written, written-part, length-joined, part-joined}
 use Rattle.lists.proofs.Parts.{row_in, lent-long}
 use Rattle.numbers.specs.Number.{◌*ᶠ◌}
@@ -20,7 +19,7 @@ use Rattle.numbers.proofs.Products.{product-comm}
 use Rattle.matrix.specs.Product.{cell, sum_of, dot_of, mat_vec_of, row_mat_of, transposed_of}
 use Rattle.matrix.proofs.Sums.{sum_same, lent-row, dot-lent}
 use Rattle.matrix.proofs.Transposes.{length-transposed, transposed-whole, transposed}
-use Rattle.gate_set.specs.GateSet.{state_in, effect_in, gate_in, through, measured, probabilities_of, columns_in, Lying, probabilities_by}
+use Rattle.gate_set.specs.GateSet.{state_in, effect_in, gate_in, through, measured, probabilities_of, columns_in, through_by, probabilities_by}
 
 pub length-columns-in : (d e gates : ℕ) (m : List Float) → length (columns_in d e gates m) ≡ gates * (d * d)
 unfolding columns_in
@@ -50,28 +49,14 @@ effect-measured d e k m x s t (p, q) h l =
     dot-lent m x s t d (omega arith) (omega (arith, effect-within d e k m h l)) ∙ ap (λ (j : ℕ). dot_of d (part j d m) x) (p ∙ z)
 
 -- a state was loaded, put through a sequence and measured
-pub run-measured : (d e : ℕ) (m columns : List Float) (sequence : List ℕ) (out s x y : List Float) → s ≡ state_in d m
-    → x ≡ through (λ g y. row_mat_of d y (part (g * (d * d)) (d * d) columns)) sequence s → length x ≡ d → y ≡ measured (length x) e m x ++ drop e out
-    → y ≡ probabilities_by d e m columns sequence ++ drop e out
+pub run-measured : (d e : ℕ) (m columns : List Float) (sequence : List ℕ) (out s x y : List Float) → s ≡ state_in d m → x ≡ through_by d columns sequence s
+    → y ≡ measured d e m x ++ drop e out → y ≡ probabilities_by d e m columns sequence ++ drop e out
 unfolding probabilities_by
-run-measured d e m columns sequence out s x y a b k c = c ∙ rw (k, b, a)
+run-measured d e m columns sequence out s x y a b c = c ∙ ap (λ (x : List Float). measured d e m x ++ drop e out) (b ∙ ap (through_by d columns sequence) a)
 
 -- gate k of a sequence, by columns
 abbrev pub gate_by : ℕ → List Float → List ℕ → ℕ → List Float → List Float
 gate_by d columns sequence k y = row_mat_of d y (part (get_or sequence k 0 * (d * d)) (d * d) columns)
-
-module _ (d : ℕ) (columns : List Float) (sequence : List ℕ) (k : ℕ) where
-  -- where it lies
-  abbrev start : ℕ
-  start = get_or sequence k 0 * (d * d)
-
-  -- it was lent whole, by its places a and b
-  pub gate-lent : (a b : ℕ) → (a ≡ start) × (b ≡ start + d * d) → Lying d columns sequence → k < length sequence → d * d ≤ length (take (b - a) (drop a columns))
-  gate-lent a b (p, q) h l = le_of_eq (sym (lent-long a b (d * d) columns (omega arith) (omega (arith, h k l))))
-
-  -- one more gate
-  pub gate-more : (a b : ℕ) (s x y : List Float) → (a ≡ start) × (b ≡ start + d * d) → x ≡ fold k (gate_by d columns sequence) s → y ≡ row_mat_of d x (take (b - a) (drop a columns)) → y ≡ fold (k + 1) (gate_by d columns sequence) s
-  gate-more a b s x y p e f = fold_more (gate_by d columns sequence) k s x y e (f ∙ ap (row_mat_of d x) (lent-row columns (get_or sequence k 0) (d * d) a b p))
 
 -- gate g, lent from v, the gates of a model, by its places a and b
 module _ (d e g : ℕ) (m v : List Float) (q : v ≡ drop (d + e * d) m) (a b : ℕ) (p : (a ≡ g * (d * d)) × (b ≡ g * (d * d) + d * d)) where

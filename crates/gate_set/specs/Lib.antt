@@ -1,1 +1,2 @@
 pub mod GateSet
+pub mod Models

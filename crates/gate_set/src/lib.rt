@@ -2,8 +2,11 @@
 // sum of the same products in the same order.
 #![tactic(auto)]
 
-ghost use Rattle.std.specs.Prelude.{◌≡◌, ◌++◌, ◌+◌, ◌*◌, ◌≤◌, ◌<◌, length, drop};
-ghost use Rattle.gate_set.specs.GateSet.{measured, present_of, columns_in, Lying, through_by, probabilities_by};
+ghost use Rattle.std.specs.Prelude.{◌≡◌, ◌++◌, ◌+◌, ◌*◌, ◌≤◌, ◌<◌, length, take, drop};
+ghost use Rattle.lists.specs.Part.{part};
+ghost use Rattle.matrix.specs.Product.{row_mat_of};
+ghost use Rattle.gate_set.specs.GateSet.{state_in, measured, present_of, columns_in, Lying, probabilities_by};
+ghost use Rattle.gate_set.specs.Models.{AllWhole, AllLying, AllThrough, AllMeasured};
 
 use matrix::{by_size, row};
 use refusal::Refusal;
@@ -27,27 +30,59 @@ pub fn gates_by_columns(model: &[f64], d: usize, e: usize, gates: usize, out: &m
 {
     let m = d * d;
     let gates_at = &model[d + e * d..];
+    // By places: see `matrix::row`.
     for g in 0..gates {
         matrix::transpose(&gates_at[row(g, m)], d, &mut out[row(g, m)]);
     }
 }
 
-// The state x put through a sequence.
-fn run_of(columns: &[f64], d: usize, sequence: &[usize], x: &mut [f64])
-    requires { (d ≤ 16) × (length x.old ≡ d) × Lying d columns.now sequence.now }
-    ensures { x.new ≡ through_by d columns.now sequence.now x.old }
+// A model: its numbers, and its gates by columns.
+#[derive(Clone, Copy)]
+pub struct Model<'a> {
+    pub numbers: &'a [f64],
+    pub columns: &'a [f64],
+}
+
+// The state at the front of x put through gate g.
+fn pass(x: &mut [f64; 16], columns: &[f64], g: usize, d: usize)
+    requires { (d ≤ 16) × (g * (d * d) + d * d ≤ length columns.now) }
+    ensures { take d x.new ≡ row_mat_of d (take d x.old) (part (g * (d * d)) (d * d) columns.now) }
+{
+    matrix::row_times(&mut x[..d], &columns[row(g, d * d)], d);
+}
+
+// The states at the fronts of xs, one for each model, put through a sequence by the gates of their models. The sequence is read once for all, and the
+// processor works on one state while it waits for another.
+fn run_of<const N: usize>(
+    models: &[Model<'_>],
+    d: usize,
+    sequence: &[usize],
+    xs: &mut [[f64; 16]; N],
+)
+    requires { (d ≤ 16) × (length models.now ≡ N) × AllLying d models.now sequence.now }
+    ensures { AllThrough d models.now sequence.now xs.old xs.new }
 {
     for g in sequence {
-        matrix::row_times(x, &columns[row(*g, d * d)], d);
+        for (k, x) in xs.iter_mut().enumerate() {
+            pass(x, models[k].columns, *g, d);
+        }
     }
 }
 
-// The same, by size.
-fn run(columns: &[f64], d: usize, sequence: &[usize], x: &mut [f64])
-    requires { (d ≤ 16) × (length x.old ≡ d) × Lying d columns.now sequence.now }
-    ensures { x.new ≡ through_by d columns.now sequence.now x.old }
+// The same, by size: `by_size` lends one slice of numbers, and these are several.
+fn run<const N: usize>(models: &[Model<'_>], d: usize, sequence: &[usize], xs: &mut [[f64; 16]; N])
+    requires { (d ≤ 16) × (length models.now ≡ N) × AllLying d models.now sequence.now }
+    ensures { AllThrough d models.now sequence.now xs.old xs.new }
 {
-    by_size(d, x, |d, x| run_of(columns, d, sequence, x));
+    if d == 16 {
+        run_of(models, 16, sequence, xs);
+        return;
+    }
+    if d == 4 {
+        run_of(models, 4, sequence, xs);
+        return;
+    }
+    run_of(models, d, sequence, xs);
 }
 
 // What the effects give of the state x. They lie behind the state, as rows of its length.
@@ -60,7 +95,46 @@ fn measure(model: &[f64], x: &[f64], e: usize, out: &mut [f64])
     }
 }
 
-// The probabilities of a sequence, at the front of `out`; the state and the effects stand at the front of `model`.
+// The state of a model, at the front of x.
+fn load_state(model: &[f64], d: usize, x: &mut [f64; 16])
+    requires { (d ≤ 16) × (d ≤ length model.now) }
+    ensures { take d x.new ≡ state_in d model.now }
+{
+    matrix::put_row(&mut x[..d], model);
+}
+
+// What the effects of a model give of the state at the front of x.
+fn measure_front(model: &[f64], x: &[f64; 16], d: usize, e: usize, out: &mut [f64; 16])
+    requires { (d ≤ 16) × (e ≤ 16) × (d + e * d ≤ length model.now) }
+    ensures { out.new ≡ measured d e model.now (take d x.now) ++ drop e out.old }
+{
+    measure(model, &x[..d], e, out);
+}
+
+// The probabilities of a sequence under each model, at the front of its row of `out`.
+pub fn probabilities_under<const N: usize>(
+    models: &[Model<'_>],
+    sequence: &[usize],
+    d: usize,
+    e: usize,
+    out: &mut [[f64; 16]; N],
+)
+    requires { (d ≤ 16) × (e ≤ 16) × (length models.now ≡ N) × AllWhole d e models.now × AllLying d models.now sequence.now }
+    ensures { AllMeasured d e models.now sequence.now out.old out.new }
+{
+    let mut xs = [[0.0; 16]; N];
+    for (k, x) in xs.iter_mut().enumerate() {
+        load_state(models[k].numbers, d, x);
+    }
+    run(models, d, sequence, &mut xs);
+    // Lent as a slice: a part of an array whose length is a const parameter gets no proof.
+    let states = &xs[..];
+    for (k, p) in out.iter_mut().enumerate() {
+        measure_front(models[k].numbers, &states[k], d, e, p);
+    }
+}
+
+// The same under one model, at the front of `out`; the state and the effects stand at the front of `model`.
 pub fn probabilities(
     model: &[f64],
     columns: &[f64],
@@ -72,77 +146,11 @@ pub fn probabilities(
     requires { (d ≤ 16) × (e ≤ 16) × (d + e * d ≤ length model.now) × (e ≤ length out.old) × Lying d columns.now sequence.now }
     ensures { out.new ≡ probabilities_by d e model.now columns.now sequence.now ++ drop e out.old }
 {
-    let mut x = [0.0; 16];
-    let x = &mut x[..d];
-    matrix::put_row(x, model);
-    run(columns, d, sequence, x);
-    measure(model, x, e, out);
-}
-
-// Two states, each through the sequence by gates of its own. The sequence is read once, and the processor works on one state while it waits for the other.
-fn run_both_of(
-    columns: &[f64],
-    others: &[f64],
-    d: usize,
-    sequence: &[usize],
-    x: &mut [f64],
-    y: &mut [f64],
-)
-    requires { (d ≤ 16) × (length x.old ≡ d) × (length y.old ≡ d) × Lying d columns.now sequence.now × Lying d others.now sequence.now }
-    ensures { (x.new ≡ through_by d columns.now sequence.now x.old) × (y.new ≡ through_by d others.now sequence.now y.old) }
-{
-    for g in sequence {
-        let places = row(*g, d * d);
-        matrix::row_times(x, &columns[places.start..places.end], d);
-        matrix::row_times(y, &others[places], d);
-    }
-}
-
-// The same, by size: `by_size` lends one slice, and here are two.
-fn run_both(
-    columns: &[f64],
-    others: &[f64],
-    d: usize,
-    sequence: &[usize],
-    x: &mut [f64],
-    y: &mut [f64],
-)
-    requires { (d ≤ 16) × (length x.old ≡ d) × (length y.old ≡ d) × Lying d columns.now sequence.now × Lying d others.now sequence.now }
-    ensures { (x.new ≡ through_by d columns.now sequence.now x.old) × (y.new ≡ through_by d others.now sequence.now y.old) }
-{
-    if d == 16 {
-        run_both_of(columns, others, 16, sequence, x, y);
-        return;
-    }
-    if d == 4 {
-        run_both_of(columns, others, 4, sequence, x, y);
-        return;
-    }
-    run_both_of(columns, others, d, sequence, x, y);
-}
-
-// The probabilities of a sequence under two models, at the fronts of `out` and `also`.
-pub fn probabilities_both(
-    model: &[f64],
-    columns: &[f64],
-    other: &[f64],
-    others: &[f64],
-    sequence: &[usize],
-    d: usize,
-    e: usize,
-    out: &mut [f64],
-    also: &mut [f64],
-)
-    requires { (d ≤ 16) × (e ≤ 16) × (d + e * d ≤ length model.now) × (d + e * d ≤ length other.now) × (e ≤ length out.old) × (e ≤ length also.old) × Lying d columns.now sequence.now × Lying d others.now sequence.now }
-    ensures { (out.new ≡ probabilities_by d e model.now columns.now sequence.now ++ drop e out.old) × (also.new ≡ probabilities_by d e other.now others.now sequence.now ++ drop e also.old) }
-{
-    let mut x = [0.0; 16];
-    let mut y = [0.0; 16];
-    let x = &mut x[..d];
-    let y = &mut y[..d];
-    matrix::put_row(x, model);
-    matrix::put_row(y, other);
-    run_both(columns, others, d, sequence, x, y);
-    measure(model, x, e, out);
-    measure(other, y, e, also);
+    let mut ps = [[0.0; 16]; 1];
+    let m = Model {
+        numbers: &*model,
+        columns: &*columns,
+    };
+    probabilities_under(&[m], sequence, d, e, &mut ps);
+    out[..e].copy_from_slice(&ps[0][..e]);
 }

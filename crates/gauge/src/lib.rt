@@ -3,13 +3,11 @@
 
 ghost use Rattle.std.specs.Prelude.{◌≡◌, ◌*◌, ◌≤◌, ◌<◌, length};
 ghost use Rattle.lists.specs.Build.{over, joined};
-ghost use Rattle.card_places.specs.Shape.{Shaped};
 ghost use Rattle.model_words.specs.Words.{model_numbers};
 ghost use Rattle.refusal.specs.Verdicts.{finite_or};
 ghost use Rattle.refusal.specs.declared.Refusal.TheVariants.{NonFinite};
 ghost use Rattle.gauge.specs.Gauge.{threshold_of, inverted_of, inverse_in, new_state, new_effect, new_gate, transformed, gauged_of, gauged_numbers};
 
-use card_layout::Header;
 use card_parts::Card;
 use model_words::{model_numbers, vector_numbers};
 use refusal::Refusal;
@@ -72,6 +70,7 @@ impl<'a> Gauge<'a> {
         requires { self.now.card.header.effects * self.now.card.header.dimension ≤ length out.old }
         ensures { out.new ≡ over (joined self.now.card.header.effects (new_effect self.now.inverse.now self.now.card.bytes.now self.now.card.header)) out.old }
     {
+        // By places: see `matrix::row`.
         for k in 0..self.card.header.effects {
             let start = k * self.card.header.dimension;
             self.effect(k, &mut out[start..]);
@@ -96,6 +95,7 @@ impl<'a> Gauge<'a> {
     {
         let m = square(self.card.header.dimension);
         let mut left = [0.0; 256];
+        // By places: see `matrix::row`.
         for g in 0..self.card.header.gates {
             let start = g * m;
             self.gate(g, &mut left, &mut out[start..]);
@@ -142,18 +142,4 @@ pub fn transform(card: &Card<'_>, work: &mut [f64]) -> Result<(), Refusal>
         inverse: &inverse[..m],
     };
     gauge.tested(work)
-}
-
-// The same, of a card by its bytes and its header.
-pub fn gauge_transform(card: &[u8], h: Header, work: &mut [f64]) -> Result<(), Refusal>
-    requires { Shaped card.now h × (h.kind ≡ 6) × (model_numbers h ≤ length work.old) }
-    ensures { (result ≡ gauged_of card.now h) × (work.new ≡ over (gauged_numbers card.now h) work.old) }
-{
-    transform(
-        &Card {
-            bytes: card,
-            header: h,
-        },
-        work,
-    )
 }

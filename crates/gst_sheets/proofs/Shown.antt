@@ -1,4 +1,4 @@
--- The numbers of a model in its room. Assumes nothing.
+-- The numbers of a model in its room, and the word before the model. Assumes nothing.
 use Prim.Native.Nat.{ℕ, ◌≤◌}
 use mathlib.Core.Path.{◌≡◌, ap, ◌∙◌}
 use mathlib.Core.List.{List, ◌++◌, append-nil}
@@ -6,6 +6,10 @@ use native.Mathlib.Omega.{arith}
 use lib.ListN.{length, take, drop, drop_of_length-le}
 use lib.Seq.{length-take-le, take_at}
 use Rattle.lists.specs.Build.{over}
+use Rattle.card_layout.specs.declared.Header.{Header}
+use Rattle.card_places.specs.Shape.{Shaped}
+use Rattle.card_places.proofs.ByKind.{at7}
+use Rattle.card_places.proofs.Within.{model_inside}
 
 -- x was written over all of the n entries that were lent, and they are lent again
 module _ {A : Type 0} (x room ys : List A) (n : ℕ) (l : length x ≡ n) (f : n ≤ length room) (e : ys ≡ over x (take n room)) where
@@ -14,3 +18,7 @@ module _ {A : Type 0} (x room ys : List A) (n : ℕ) (l : length x ≡ n) (f : n
 
   pub loaded-again : take n (ys ++ drop n room) ≡ x
   loaded-again = take_at ys (drop n room) n (ap length loaded ∙ l) ∙ loaded
+
+-- the tolerance stands before the model
+pub tolerance_inside : (s : List ℕ) (h : Header) → Shaped s h → h.kind ≡ 7 → 16 ≤ length s
+tolerance_inside s h a k = omega (arith, model_inside s h a (omega arith), at7 h k)

@@ -1,15 +1,13 @@
 // The sheet of a gate set with its records, kind 7.
 #![tactic(auto)]
 
-ghost use Rattle.std.specs.Prelude.{◌≡◌, ℕ, ◌≤◌, ◌<◌, length, true};
-ghost use Rattle.card_places.specs.Shape.{Shaped};
-ghost use Rattle.card_parts.specs.Parts.{Sequence};
+ghost use Rattle.std.specs.Prelude.{◌≡◌, ◌≤◌, length, true};
+ghost use Rattle.card_parts.specs.Parts.{Sequences};
 ghost use Rattle.model_words.specs.Words.{numbers_of};
 ghost use Rattle.diagnostics.specs.Diagnostics.{likelihood_of};
 ghost use Rattle.outcome.specs.Outcome.{Gives};
 ghost use Rattle.gst_sheets.specs.Sheets.{tolerance_sheet, diagnostics_sheet};
 
-use card_layout::Header;
 use card_parts::Card;
 use likelihood::{Diagnostics, Unfit};
 use numbers::word_of;
@@ -18,18 +16,19 @@ use refusal::Refusal;
 
 // The diagnostics of the card's own model.
 fn diagnose(card: &Card<'_>, tolerance: f64) -> Result<Diagnostics, Unfit>
-    requires { (5 ≤ card.now.header.kind) × ((r : ℕ) → r < card.now.header.records → Sequence card.now.bytes.now card.now.header r) }
+    requires { (5 ≤ card.now.header.kind) × Sequences card.now.bytes.now card.now.header }
     ensures { result ≡ likelihood_of true tolerance card.now.bytes.now card.now.header (numbers_of card.now.bytes.now card.now.header) }
 {
     let n = model_words::model_numbers(card.header);
     let mut model = [0.0; 2320];
     let mut columns = [0.0; 2048];
-    model_words::load_model(card.bytes, card.header, &mut model[..n]);
+    model_words::load(card, &mut model[..n]);
     diagnostics::fit_diagnostics(card, &model[..n], true, tolerance, &mut columns)
 }
 
+#[tactic(auto, using(outcome::proofs::Outcomes::stays, outcome::proofs::Outcomes::same_outcome), unfolding(crate::specs::Sheets::tolerance_sheet))]
 fn tolerance_sheet(card: &Card<'_>, tolerance: f64, res: &mut [u64]) -> Result<Answer, Refusal>
-    requires { (5 ≤ card.now.header.kind) × ((r : ℕ) → r < card.now.header.records → Sequence card.now.bytes.now card.now.header r) × (2 ≤ length res.old) }
+    requires { (5 ≤ card.now.header.kind) × Sequences card.now.bytes.now card.now.header × (2 ≤ length res.old) }
     ensures { Gives (tolerance_sheet card.now.bytes.now card.now.header tolerance) res.old res.new result }
 {
     if !numbers::is_positive(tolerance) {
@@ -41,15 +40,12 @@ fn tolerance_sheet(card: &Card<'_>, tolerance: f64, res: &mut [u64]) -> Result<A
 }
 
 // Kind 7.
-pub fn diagnostics_sheet(card: &[u8], h: Header, res: &mut [u64]) -> Result<Answer, Refusal>
-    requires { Shaped card.now h × (h.kind ≡ 7) × ((r : ℕ) → r < h.records → Sequence card.now h r) × (16 ≤ length card.now) × (4096 ≤ length res.old) }
-    ensures { Gives (diagnostics_sheet card.now h) res.old res.new result }
+#[tactic(auto, using(crate::proofs::Shown::tolerance_inside, outcome::proofs::Outcomes::stays, outcome::proofs::Outcomes::same_outcome), unfolding(crate::specs::Sheets::diagnostics_sheet, model::specs::Checked::checked_of))]
+pub fn diagnostics_sheet(card: &Card<'_>, res: &mut [u64]) -> Result<Answer, Refusal>
+    requires { (card.now.header.kind ≡ 7) × Sequences card.now.bytes.now card.now.header × (4096 ≤ length res.old) }
+    ensures { Gives (diagnostics_sheet card.now.bytes.now card.now.header) res.old res.new result }
 {
-    model::check_model(card, h)?;
-    let tolerance = numbers::number_of(numbers::word_at(card, 1));
-    let card = Card {
-        bytes: card,
-        header: h,
-    };
-    tolerance_sheet(&card, tolerance, res)
+    model::check(card)?;
+    let tolerance = numbers::number_of(numbers::word_at(card.bytes, 1));
+    tolerance_sheet(card, tolerance, res)
 }

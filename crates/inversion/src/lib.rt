@@ -28,6 +28,7 @@ fn start_rows_of(a: &[f64], n: usize, work: &mut [f64])
     ensures { work.new ≡ start_rows n a.now }
 {
     let w = 2 * n + 2;
+    // By places: see `matrix::row`.
     for i in 0..n {
         start_row(a, n, i, &mut work[row(i, w)]);
     }
@@ -109,6 +110,7 @@ fn reduce(
 {
     start_rows(a, n, work);
     number_places(places);
+    // By number: a step changes every row.
     for k in 0..n {
         reduce_column(work, places, n, k, limit)?;
     }
@@ -121,6 +123,7 @@ fn right_halves_of(work: &[f64], places: &[usize], n: usize, out: &mut [f64])
     ensures { out.new ≡ kept_right n places.now work.now ++ drop (n * n) out.old }
 {
     let w = 2 * n + 2;
+    // By places: see `matrix::row`.
     for i in 0..n {
         let kept = &work[row(i, w)];
         numbers::gather(&kept[n..], places, &mut out[row(i, n)]);

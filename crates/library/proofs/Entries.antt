@@ -1,5 +1,6 @@
 -- The verdicts of the library's entries, and their outcomes carried from a call to its caller. Assumes nothing.
 use Rattle.std.proofs.Common.{Err, Ok}
+use Rattle.std.specs.Result.{IsErrAnd}
 use Rattle.refusal.specs.Verdicts.{good, Verdict, first_of, after}
 use Prim.Native.Nat.{ℕ, ◌^◌, ◌≤◌, ◌<◌}
 use mathlib.Core.Bool.{cond}
@@ -23,8 +24,8 @@ use Rattle.transfer.proofs.Applied.{good-numbers}
 use Rattle.choi.specs.Choi.{choi_of, normalized_choi, choi_numbers}
 use Rattle.choi.proofs.Values.{good-choi}
 use Rattle.outcome.specs.declared.Answer.{Answer}
-use Rattle.outcome.specs.Outcome.{shown, Gives}
-use Rattle.outcome.proofs.Outcomes.{stays, not-shown, is-shown}
+use Rattle.outcome.specs.Outcome.{Answered, shown, Gives}
+use Rattle.outcome.proofs.Outcomes.{returned, not-shown, is-shown}
 use Rattle.library.specs.Entries.{qubits_of, setting_verdict, apply_verdict, apply_numbers, choi_verdict, choi_left}
 
 -- ---- the number of qubits
@@ -40,12 +41,13 @@ module _ (most n : ℕ) where
 
 -- ---- an entry: v is its verdict, as the call w gave it
 
-module _ (v : Verdict) (answer : ℕ → Answer) (n : ℕ) (words result₀ result₁ : List ℕ) (w : Verdict) (e : w ≡ v) where
-  pub entry-refused : (r : Refusal) → w ≡ Err r → Gives (shown v (answer n) words) result₀ result₀ (Err r)
-  entry-refused r f = stays result₀ (not-shown v (answer n) words w r e f)
+module _ {v w : Verdict} (answer : ℕ → Answer) (n : ℕ) (words : List ℕ) {result₀ : List ℕ} (e : w ≡ v) where
+  pub entry-refused : {r : Refusal} {a : Answered} → IsErrAnd a (λ q. q ≡ r) → w ≡ Err r → Gives (shown v (answer n) words) result₀ result₀ a
+  entry-refused {r = r} i f = returned result₀ i (not-shown v (answer n) words w r e f)
 
-  pub entry-shown : (count : ℕ) → count ≡ n → w ≡ good → result₁ ≡ words ++ drop (length words) result₀ → Gives (shown v (answer n) words) result₀ result₁ (Ok (answer count))
-  entry-shown count k f p = subst (λ (m : ℕ). Gives (shown v (answer n) words) result₀ result₁ (Ok (answer m))) (sym k) (is-shown v (answer n) words w result₀ result₁ e f p)
+  pub entry-shown : {count : ℕ} {result₁ : List ℕ} → count ≡ n → w ≡ good → result₁ ≡ words ++ drop (length words) result₀ → Gives (shown v (answer n) words) result₀ result₁ (Ok (answer count))
+  entry-shown {result₁ = result₁} k f p =
+      subst (λ (m : ℕ). Gives (shown v (answer n) words) result₀ result₁ (Ok (answer m))) (sym k) (is-shown v (answer n) words w result₀ result₁ e f p)
 
 -- ---- settings
 

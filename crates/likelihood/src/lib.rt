@@ -3,7 +3,6 @@
 
 ghost use Rattle.std.specs.Prelude.{◌≡◌, ◌≤◌, false, ◌||◌, length};
 ghost use Rattle.std.specs.List.{fold};
-ghost use Rattle.numbers.specs.Number.{◌+ᶠ◌};
 ghost use Rattle.likelihood.specs.Multinomial as spec;
 
 use logarithm::LnTables;
@@ -66,28 +65,10 @@ fn any_bad(tolerance: f64, ps: &[f64]) -> bool
     ps.iter().fold(false, |bad, p| bad | is_bad(tolerance, *p))
 }
 
-fn add_to(s: f64, xs: &[f64]) -> f64
-    ensures { result ≡ fold (λ s x. s +ᶠ x) s xs.now }
-{
-    xs.iter().fold(s, |s, x| s + x)
-}
-
 fn fails(tolerance: f64, ps: &[f64]) -> bool
     ensures { result ≡ spec.failing tolerance ps.now }
 {
-    any_bad(tolerance, ps) || tolerance < numbers::abs_of(add_to(-0.0, ps) - 1.0)
-}
-
-fn clamp(p: f64) -> f64
-    ensures { result ≡ spec.clamped p }
-{
-    if p < 0.0 {
-        0.0
-    } else if 1.0 < p {
-        1.0
-    } else {
-        p
-    }
+    any_bad(tolerance, ps) || tolerance < numbers::abs_of(ps.iter().sum::<f64>() - 1.0)
 }
 
 fn add_counts(counts: &[u64]) -> Option<u64>
@@ -104,10 +85,9 @@ fn add_counts(counts: &[u64]) -> Option<u64>
 fn plus_term(w: &Weighing<'_>, t: f64, c: f64, p: f64, d: Diagnostics) -> Diagnostics
     ensures { result ≡ spec.plus_term (spec.log_in w.now.tables.now) w.now.deviance t c p d }
 {
-    let tables = w.tables;
-    let likely = d.log_likelihood + c * logarithm::ln_by(&tables.quotients, &tables.remainders, p);
+    let likely = d.log_likelihood + c * w.tables.ln(p);
     if w.deviance {
-        let ratio = logarithm::ln_by(&tables.quotients, &tables.remainders, c / (t * p));
+        let ratio = w.tables.ln(c / (t * p));
         let term = 2.0 * c * ratio;
         return Diagnostics {
             log_likelihood: likely,
@@ -146,7 +126,7 @@ fn with_terms(
     let mut sum = d;
     for (k, c) in counts.iter().enumerate() {
         let seen = std::num::nearest_u64_to_f64(*c);
-        sum = with_term(w, t, seen, clamp(ps[k]), sum)?;
+        sum = with_term(w, t, seen, ps[k].clamp(0.0, 1.0), sum)?;
     }
     Ok(sum)
 }

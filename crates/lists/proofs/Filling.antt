@@ -1,7 +1,7 @@
 -- Lists made entry by entry, and the loops that fill a list from the front. Assumes nothing.
 use mathlib.Core.Path.{◌≡◌, refl, sym, ◌∙◌, ap, ap₂}
 use mathlib.Core.List.{List, [], ◌∷◌, ◌++◌, append_assoc, append-nil}
-use Prim.Native.Nat.{ℕ, zero, suc, ◌+◌, ◌-◌, ◌≤◌, ◌<◌}
+use Prim.Native.Nat.{ℕ, zero, suc, ◌+◌, ◌≤◌, ◌<◌}
 use native.Mathlib.Nat.{add-zero, zero-add, add-suc, suc-add, le_refl, le_of_suc-le-suc, not-suc-le-zero}
 use native.Mathlib.Omega.{arith}
 use native.Mathlib.Numerals.{add-one}
@@ -9,7 +9,7 @@ use lib.Dec.{eqb}
 use borrow.Author.Tests.{eqb-true, eqb-false}
 use mathlib.Core.Bool.{Bool, true, false}
 use lib.ListN.{length, take, drop, get_or, set, length-append, length-take, length-drop, length-set, drop_of_length-le}
-use lib.Seq.{drop-cons, set_at, take_at, take-take, get_or_at, get_or-take, get_or-drop, get_or-set_same, get_or-set_other, ext_get_or}
+use lib.Seq.{drop-cons, set_at, take_at, get_or_at, get_or-take, get_or-drop, get_or-set_same, get_or-set_other, ext_get_or}
 use Rattle.lists.specs.Build.{from, build, over}
 use Rattle.lists.specs.Part.{part}
 
@@ -73,11 +73,6 @@ module _ {A : Type 0} where
   pub build-front : (z : A) (n : ℕ) (l : List A) → n ≤ length l → build n (λ i. get_or l i z) ≡ take n l
   build-front z n l h =
       build-same n _ (λ i. get_or l (0 + i) z) (λ j _. ap (λ (i : ℕ). get_or l i z) (sym (zero-add j))) ∙ build-part z 0 n l (omega arith)
-
-  -- a list that was written over with the part `f..u` of l, lent
-  pub lent-copy : (z : A) (c n f u : ℕ) (l ys : List A) → c ≡ n → u ≡ f + n → u ≤ length l → ys ≡ take c (take (u - f) (drop f l)) → ys ≡ build n (λ j. get_or l (f + j) z)
-  lent-copy z c n f u l ys h k b y =
-      y ∙ ap (λ (c : ℕ). take c (take (u - f) (drop f l))) h ∙ take-take n (u - f) (drop f l) (omega arith) ∙ sym (build-part z f n l (omega arith))
 
   pub build-all : (z : A) (l : List A) → build (length l) (λ i. get_or l i z) ≡ l
   build-all z l =

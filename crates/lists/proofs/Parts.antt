@@ -59,10 +59,6 @@ module _ {A : Type 0} where
   pub copied-long : (a w : ℕ) (l d s : List A) → a + w ≤ length l → s ≡ part a w l ++ d → length (take w s) ≡ w
   copied-long a w l d s h e = ap length (copied a w l d s h e) ∙ length_part a w l h
 
-  -- the front that was lent and came back as y, lent once more
-  pub lent_again : (y rest : List A) (size : ℕ) → length y ≡ size → size ≤ length (take size (y ++ rest))
-  lent_again y rest size e = omega (arith, e, ap length (take_at y rest size e))
-
 -- x was written over the first n entries of l, and has as many
 pub over-front : {A : Type 0} (x l : List A) {y : List A} {n : ℕ} → length x ≡ n → y ≡ x ++ drop n l → y ≡ over x l
 over-front x l k e = e ∙ ap (λ (j : ℕ). x ++ drop j l) (sym k)

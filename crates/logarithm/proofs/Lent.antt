@@ -1,4 +1,4 @@
--- With the tables of `tables`, the logarithm by lent tables is the logarithm. Assumes nothing.
+-- By tables that are `Tabled`, the logarithm by lent tables is the logarithm. Assumes nothing.
 use Rattle.std.proofs.Common.{◌≡◌, ℕ, ◌-◌, ◌/◌, ◌^◌, ◌<◌, cond, List, ap, ◌∙◌, arith, lit<}
 use lib.Ieee.{Float, nan, lt}
 use Rattle.lists.proofs.Filling.{get_or-build}

@@ -527,37 +527,32 @@ const REMAINDERS: [f64; 257] = [
 ];
 
 // The whole numbers nearest 2^70 · ln(1 + j/256), for j from 0 to 256, by quotient and remainder by 2^27. They are below 2^53, and so are numbers, which saves
-// the logarithm four conversions. One array of pairs takes as many steps as the two.
+// the logarithm four conversions. The form is document 01's; one array of pairs was no faster.
 #[derive(Drop)]
 pub struct LnTables {
     pub quotients: [f64; 257],
     pub remainders: [f64; 257],
-    pub ghost tabled: { Tabled quotients remainders },
 }
 
 impl LnTables {
     // A constant array is laid out anew wherever it is read, which costs ten times the logarithm: a caller with many numbers makes the tables once.
-    pub fn new() -> Self {
+    pub fn new() -> Self
+        ensures { Tabled result.quotients result.remainders }
+    {
         LnTables {
             quotients: QUOTIENTS,
             remainders: REMAINDERS,
         }
     }
 
-    // The natural logarithm.
+    // The logarithm by these tables: by those of `new` it is the natural logarithm.
     pub fn ln(&self, x: f64) -> f64
-        ensures steps { result ≡ ln x }
-        ensures error { LnError x result }
+        ensures lent { result ≡ ln_by (at self.now.quotients) (at self.now.remainders) x }
+        ensures steps { Tabled self.now.quotients self.now.remainders → result ≡ ln x }
+        ensures error { Tabled self.now.quotients self.now.remainders → LnError x result }
     {
         ln_by(&self.quotients, &self.remainders, x)
     }
-}
-
-// The tables, for those who lend them to `ln_by`.
-pub fn tables() -> LnTables
-    ensures { Tabled result.quotients result.remainders }
-{
-    LnTables::new()
 }
 
 // ln of m · 2^(n - 1126), for an m of 53 digits: document 01's M is m, and its e is n - 1074.
@@ -576,7 +571,7 @@ fn ln_of<'a>(quotients: &'a [f64; 257], remainders: &'a [f64; 257], m: u64, n: u
     hi + (lo + (t - s))
 }
 
-// The natural logarithm by tables that are lent: with those of `tables` it is `ln`. Their lifetime is one, so that both fields of a struct can be lent.
+// The steps of the natural logarithm, by any two tables: by those of `LnTables` it is `ln`. Their lifetime is one, so that both fields of a struct can be lent.
 pub fn ln_by<'a>(quotients: &'a [f64; 257], remainders: &'a [f64; 257], x: f64) -> f64
     ensures { result ≡ ln_by (at quotients.now) (at remainders.now) x }
 {

@@ -16,7 +16,8 @@ pub struct Pivot {
     pub q: usize,
 }
 
-// Of each entry of a matrix of up to N entries: a bound of its magnitude, and the magnitude, or -1 where it is not known (an `Option` would take twice the room).
+// Of each entry of a matrix of up to N entries: a bound of its magnitude, and the magnitude, or -1 where it is not known: the room is fixed, and an `Option` takes
+// twice as much.
 #[derive(Drop)]
 pub struct Notes<const N: usize> {
     bounds: [f64; N],
@@ -38,9 +39,10 @@ pub fn scale(a: &[f64], n: usize) -> f64
     requires { length a.now ≡ 2 * (n * n) }
     ensures { result ≡ spec.scale_of n (entries a.now) }
 {
+    let (entries, _) = a.as_chunks::<2>();
     let mut s = 0.0;
-    for k in 0..n * n {
-        s = widen(entries::get(a, k), s);
+    for [re, im] in entries {
+        s = widen(Complex { re: *re, im: *im }, s);
     }
     numbers::max_of(s, f64::MIN_POSITIVE)
 }
@@ -71,6 +73,7 @@ impl<const N: usize> Notes<N> {
             bounds: [0.0; N],
             sizes: [0.0; N],
         };
+        // By places, here and below: see crate entries.
         for k in 0..n * n {
             notes.note(a, k);
         }

@@ -25,7 +25,8 @@ pub fn by_size<R, F: Fn(usize, &mut [f64]) -> R>(n: usize, out: &mut [f64], f: F
     f(n, out)
 }
 
-// The places of row i, where rows of w numbers lie one after the other.
+// The places of row i, where rows of w numbers lie one after the other. Loops over rows go by these places: of what `chunks_exact_mut` lends, std tells nothing
+// afterwards, and it refuses rows of no number.
 pub fn row(i: usize, w: usize) -> Range<usize>
     requires { i * w + w < 2 ^ 64 }
     ensures { (result.start ≡ i * w) × (result.end ≡ i * w + w) }
@@ -134,6 +135,7 @@ fn mat_mul_of(a: &[f64], b: &[f64], n: usize, out: &mut [f64])
     requires { (n ≤ 16) × (n * n ≤ length a.now) × (n * n ≤ length b.now) × (n * n ≤ length out.old) }
     ensures { out.new ≡ mat_mul_of n a.now b.now ++ drop (n * n) out.old }
 {
+    // By places: see `row`.
     for i in 0..n {
         let sums = sums_of(&a[row(i, n)], b, n);
         out[row(i, n)].copy_from_slice(&sums[..n]);
@@ -163,6 +165,7 @@ fn transpose_of(a: &[f64], n: usize, out: &mut [f64])
     requires { (n ≤ 16) × (n * n ≤ length a.now) × (n * n ≤ length out.old) }
     ensures { out.new ≡ transposed_of n a.now ++ drop (n * n) out.old }
 {
+    // By places: see `row`.
     for j in 0..n {
         put_column(a, n, j, &mut out[row(j, n)]);
     }

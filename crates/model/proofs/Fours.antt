@@ -45,11 +45,11 @@ finite-range s p n =
     ∙ finite-listed (build n (λ i. number_at s (p + i)))
 
 -- a run in two parts
-pub run-parts : (s : List ℕ) (p a b n : ℕ) → n ≡ a + b → all_finite (numbers_at s p n) ≡ (all_finite (numbers_at s p a) && all_finite (numbers_at s (p + a) b))
-run-parts s p a b n h = ap (λ (k : ℕ). all_finite (numbers_at s p k)) h ∙ ap all_finite (numbers-joined s p a b) ∙ finite-append (numbers_at s p a) (numbers_at s (p + a) b)
+pub run_parts : (s : List ℕ) (p a b n : ℕ) → n ≡ a + b → all_finite (numbers_at s p n) ≡ (all_finite (numbers_at s p a) && all_finite (numbers_at s (p + a) b))
+run_parts s p a b n h = ap (λ (k : ℕ). all_finite (numbers_at s p k)) h ∙ ap all_finite (numbers-joined s p a b) ∙ finite-append (numbers_at s p a) (numbers_at s (p + a) b)
 
 pub run_on : (s : List ℕ) (p a b n : ℕ) (r : Bool) → n ≡ a + b → all_finite (numbers_at s p a) ≡ true → r ≡ all_finite (numbers_at s (p + a) b) → r ≡ all_finite (numbers_at s p n)
-run_on s p a b n r h e f = f ∙ sym (run-parts s p a b n h ∙ ap (λ (x : Bool). x && all_finite (numbers_at s (p + a) b)) e)
+run_on s p a b n r h e f = f ∙ sym (run_parts s p a b n h ∙ ap (λ (x : Bool). x && all_finite (numbers_at s (p + a) b)) e)
 
 pub run_none : (s : List ℕ) (p : ℕ) → all_finite (numbers_at s p 0) ≡ true
 unfolding numbers_at all_finite
@@ -64,22 +64,18 @@ runs-listed s p w (suc n) =
     ∙ ap (list_all q) (build-suc n (λ i. i))
     ∙ list_all-append q (build n (λ i. i)) (n ∷ [])
     ∙ ap₂ ◌&&◌ (runs-listed s p w n) (and-true (q n))
-    ∙ sym (run-parts s p (n * w) w (suc n * w) (suc-mul n w))
+    ∙ sym (run_parts s p (n * w) w (suc n * w) (suc-mul n w))
 
 pub runs-range : (s : List ℕ) (p w n : ℕ) → list_all (λ i. all_finite (numbers_at s (p + i * w) w)) (range_with_len 0 n) ≡ all_finite (numbers_at s p (n * w))
 runs-range s p w n = ap (list_all (λ i. all_finite (numbers_at s (p + i * w) w))) (build-range n) ∙ runs-listed s p w n
 
--- what the test of a word says of its number
-pub word-tested : (s : List ℕ) (p : ℕ) {w : ℕ} {r : Bool} → w ≡ word_at s p → r ≡ finite (number w) → r ≡ finite (number_at s p)
-word-tested s p e f = f ∙ ap (λ (x : ℕ). finite (number x)) e
-
 -- four numbers
 module _ (s : List ℕ) (p : ℕ) where
-  pub four-tests : all_finite (numbers_at s p 4) ≡ (finite (number_at s p) && (finite (number_at s (p + 1)) && (finite (number_at s (p + 2)) && finite (number_at s (p + 3)))))
+  pub four_tests : all_finite (numbers_at s p 4) ≡ (finite (number_at s p) && (finite (number_at s (p + 1)) && (finite (number_at s (p + 2)) && finite (number_at s (p + 3)))))
   unfolding numbers_at all_finite
-  four-tests =
+  four_tests =
       ap all_finite (sym (four-built (λ j. number_at s (p + j)) (number_at s p) (number_at s (p + 1)) (number_at s (p + 2)) (number_at s (p + 3)) (ap (number_at s) (sym (add-zero p))) refl refl refl))
       ∙ ap (λ (x : Bool). finite (number_at s p) && (finite (number_at s (p + 1)) && (finite (number_at s (p + 2)) && x))) (and-true (finite (number_at s (p + 3))))
 
   pub four-last : (r : Bool) → finite (number_at s p) ≡ true → finite (number_at s (p + 1)) ≡ true → finite (number_at s (p + 2)) ≡ true → r ≡ finite (number_at s (p + 3)) → r ≡ all_finite (numbers_at s p 4)
-  four-last r e f g h = rw (four-tests, e, f, g) h
+  four-last r e f g h = rw (four_tests, e, f, g) h

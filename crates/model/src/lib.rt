@@ -3,18 +3,17 @@
 
 ghost use Rattle.std.specs.Prelude.{◌≡◌, ◌+◌, ◌*◌, ◌≤◌, ◌<◌, length, true, false};
 ghost use Rattle.numbers.specs.Slice.{numbers_at, all_finite};
-ghost use Rattle.card_places.specs.Shape.{Shaped};
 ghost use Rattle.model.specs.Shown.{first_bytes, eight_shown};
-ghost use Rattle.model.specs.Checked.{Parts, bad_name, bad_effect, bad_gate, any_of, tested_of, on_card, checked_of};
+ghost use Rattle.model.specs.Checked.{Parts, bad_name, bad_effect, bad_gate, any_of, tested_of, on_card};
 
-use card_layout::Header;
 use card_parts::Card;
-use card_places::{effect_at, gate_at, model_at};
+use card_places::model_at;
 use numbers::{is_finite_word, word_at};
 use refusal::{Reason, Refusal};
 use sizes::square;
 
 // The bits of the first bytes of four words together. Where they leave one of the exponent's seven clear, all four numbers are finite.
+#[tactic(auto, unfolding(crate::specs::Shown::first_bytes))]
 fn first_bytes(card: &[u8], from: usize) -> u8
     requires { (from + 4) * 8 ≤ length card.now }
     ensures { result ≡ first_bytes card.now from }
@@ -23,6 +22,7 @@ fn first_bytes(card: &[u8], from: usize) -> u8
 }
 
 // Whether the four numbers from word `from` on are finite, each tested by its word.
+#[tactic(auto, using(crate::proofs::Fours::four_tests))]
 fn four_tested(card: &[u8], from: usize) -> bool
     requires { (from + 4) * 8 ≤ length card.now }
     ensures { result ≡ all_finite (numbers_at card.now from 4) }
@@ -52,6 +52,7 @@ fn fours_finite(card: &[u8], from: usize, count: usize) -> bool
 }
 
 // Whether the first bytes of eight words show it, as they do of eight that are all below 2.
+#[tactic(auto, unfolding(crate::specs::Shown::eight_shown))]
 fn eight_shown(card: &[u8], from: usize) -> bool
     requires { (from + 8) * 8 ≤ length card.now }
     ensures { result ≡ eight_shown card.now from }
@@ -76,6 +77,7 @@ fn each_finite(card: &[u8], from: usize, n: usize) -> bool
 }
 
 // Four at a time, and the rest one by one.
+#[tactic(auto, using(crate::proofs::Fours::run_parts))]
 fn are_finite_each(card: &[u8], from: usize, n: usize) -> bool
     requires { (from + n) * 8 ≤ length card.now }
     ensures { result ≡ all_finite (numbers_at card.now from n) }
@@ -199,34 +201,24 @@ impl<'a> Tested for Card<'a> {
         self.header.gates
     }
 
+    #[tactic(auto, using(card_places::proofs::Within::state_inside), unfolding(card_parts::specs::Model::state_of))]
     fn is_state_finite(&self) -> bool {
         are_finite(self.bytes, model_at(self.header), self.header.dimension)
     }
 
+    #[tactic(auto, using(card_places::proofs::Within::effect_inside), unfolding(card_parts::specs::Model::effect_of))]
     fn is_effect_finite(&self, k: usize) -> bool {
-        are_finite(self.bytes, effect_at(self.header, k), self.header.dimension)
+        let from = self.layout().effect_at(k);
+        are_finite(self.bytes, from, self.header.dimension)
     }
 
+    #[tactic(auto, using(card_places::proofs::Within::gate_inside), unfolding(card_parts::specs::Model::gate_of))]
     fn is_gate_finite(&self, g: usize) -> bool {
-        are_finite(
-            self.bytes,
-            gate_at(self.header, g),
-            square(self.header.dimension),
-        )
+        let from = self.layout().gate_at(g);
+        are_finite(self.bytes, from, square(self.header.dimension))
     }
 
     fn name(&self, g: usize) -> u64 {
         self.name_of(g)
     }
-}
-
-// The same, of a card by its bytes and its header.
-pub fn check_model(card: &[u8], h: Header) -> Result<(), Refusal>
-    requires { Shaped card.now h × (5 ≤ h.kind) }
-    ensures { result ≡ checked_of card.now h }
-{
-    check(&Card {
-        bytes: card,
-        header: h,
-    })
 }

@@ -41,11 +41,11 @@ name-first (x ∷ l) ws ys name e m h k n y =
     ap (λ (t : List ℕ). name ∷ t) (ap (λ (t : List ℕ). ys ++ t) (drop_of_length-le l {i = e - 1} q) ∙ append-nil ys ∙ y ∙ rw (take_all (e - 1) l q, n))
 
 -- the vectors' words were written, and then the gates' behind them
-pub model-written : (s : List ℕ) (h : Header) (numbers : List Float) (l : List ℕ) (v e f : ℕ) (out ys : List ℕ) → v ≡ vector_numbers h → e ≡ length out → f ≡ length numbers
+pub model_written : (s : List ℕ) (h : Header) (numbers : List Float) (l : List ℕ) (v e f : ℕ) (out ys : List ℕ) → v ≡ vector_numbers h → e ≡ length out → f ≡ length numbers
     → out ≡ words_of v numbers ++ drop v l → ys ≡ over (gates_words s h (take (f - v) (drop v numbers))) (take (e - v) (drop v out))
     → take v out ++ (ys ++ drop (e - v) (drop v out)) ≡ over (model_words_of s h numbers) l
 unfolding model_words_of
-model-written s h numbers l v e f out ys q k m o y =
+model_written s h numbers l v e f out ys q k m o y =
     over-onto (words_of v numbers) (gates_words s h (drop v numbers)) l v e out ys (length-words v numbers) k
     (o ∙ ap (λ (j : ℕ). words_of v numbers ++ drop j l) (sym (length-words v numbers)))
     (y ∙ ap (λ (x : List Float). over (gates_words s h x) (take (e - v) (drop v out))) (rest-lent v f numbers m))
@@ -66,9 +66,9 @@ module _ (s : List ℕ) (h : Header) where
   length-model = omega (arith, length-append (numbers_at s (state_at h) (vector_numbers h)) (joined h.gates (gate_of s h)), length-numbers s (state_at h) (vector_numbers h), length-gates-numbers h.gates)
 
   -- the vectors' numbers were written, and then the gates' behind them
-  pub model-loaded : (l : List Float) (p v e : ℕ) (out ys : List Float) → p ≡ state_at h → v ≡ vector_numbers h → e ≡ length out → out ≡ numbers_at s p v ++ drop v l
+  pub model_loaded : (l : List Float) (p v e : ℕ) (out ys : List Float) → p ≡ state_at h → v ≡ vector_numbers h → e ≡ length out → out ≡ numbers_at s p v ++ drop v l
       → ys ≡ over (joined h.gates (gate_of s h)) (take (e - v) (drop v out)) → take v out ++ (ys ++ drop (e - v) (drop v out)) ≡ over (numbers_of s h) l
   unfolding numbers_of
-  model-loaded l p v e out ys a q k o y =
+  model_loaded l p v e out ys a q k o y =
       over-onto (numbers_at s p v) (joined h.gates (gate_of s h)) l v e out ys (length-numbers s p v) k (over-front (numbers_at s p v) l (length-numbers s p v) o) y
       ∙ rw (a, q)

@@ -3,7 +3,6 @@
 
 ghost use Rattle.std.specs.Prelude.{◌≡◌, ◌+◌, ◌*◌, ◌≤◌, ◌<◌, length};
 ghost use Rattle.lists.specs.Build.{joined, over};
-ghost use Rattle.card_places.specs.Shape.{Shaped};
 ghost use Rattle.card_places.specs.Places.{model_words};
 ghost use Rattle.card_parts.specs.Model.{gate_of};
 ghost use Rattle.model_words.specs.Words.{vector_numbers, model_numbers, numbers_of, gate_words, gates_words, model_words_of};
@@ -29,25 +28,13 @@ pub fn model_numbers(h: Header) -> usize
     vector_numbers(h) + h.gates * square(h.dimension)
 }
 
-// Room for the numbers of a model, and for its gates by columns; the `ensures` gives the length, which lending a part needs.
-pub fn model_room() -> [f64; 2320]
-    ensures { 2320 ≡ length result }
-{
-    [0.0; 2320]
-}
-
-pub fn columns_room() -> [f64; 2048]
-    ensures { 2048 ≡ length result }
-{
-    [0.0; 2048]
-}
-
 // Puts the numbers of the gates at the front of the slice.
 fn load_gates(card: &Card<'_>, out: &mut [f64])
     requires { card.now.header.gates * (card.now.header.dimension * card.now.header.dimension) ≤ length out.old }
     ensures { out.new ≡ over (joined card.now.header.gates (gate_of card.now.bytes.now card.now.header)) out.old }
 {
     let m = square(card.header.dimension);
+    // By places: see `matrix::row`.
     for g in 0..card.header.gates {
         let start = g * m;
         card.load_gate(g, &mut out[start..]);
@@ -55,6 +42,7 @@ fn load_gates(card: &Card<'_>, out: &mut [f64])
 }
 
 // Puts the numbers of the card's model at the front of the slice.
+#[tactic(auto, using(card_places::proofs::Within::model_inside, crate::proofs::Sizes::model_loaded))]
 pub fn load(card: &Card<'_>, out: &mut [f64])
     requires { (5 ≤ card.now.header.kind) × (model_numbers card.now.header ≤ length out.old) }
     ensures { out.new ≡ over (numbers_of card.now.bytes.now card.now.header) out.old }
@@ -80,6 +68,7 @@ fn put_gates(card: &Card<'_>, numbers: &[f64], res: &mut [u64])
     ensures { res.new ≡ over (gates_words card.now.bytes.now card.now.header numbers.now) res.old }
 {
     let m = square(card.header.dimension);
+    // By places: see `matrix::row`.
     for g in 0..card.header.gates {
         let from = g * m;
         let to = g * (1 + m);
@@ -88,6 +77,7 @@ fn put_gates(card: &Card<'_>, numbers: &[f64], res: &mut [u64])
 }
 
 // The words of a model, from its numbers: the state's, the effects', then the gates'.
+#[tactic(auto, using(crate::proofs::Sizes::model_written))]
 pub fn put(card: &Card<'_>, numbers: &[f64], res: &mut [u64])
     requires { (model_numbers card.now.header ≤ length numbers.now) × (model_words card.now.header ≤ length res.old) }
     ensures { res.new ≡ over (model_words_of card.now.bytes.now card.now.header numbers.now) res.old }
@@ -95,32 +85,4 @@ pub fn put(card: &Card<'_>, numbers: &[f64], res: &mut [u64])
     let v = vector_numbers(card.header);
     numbers::emit(numbers, v, res);
     put_gates(card, &numbers[v..], &mut res[v..]);
-}
-
-// The same two, of a card by its bytes and its header.
-pub fn load_model(card: &[u8], h: Header, out: &mut [f64])
-    requires { Shaped card.now h × (5 ≤ h.kind) × (model_numbers h ≤ length out.old) }
-    ensures { out.new ≡ over (numbers_of card.now h) out.old }
-{
-    load(
-        &Card {
-            bytes: card,
-            header: h,
-        },
-        out,
-    );
-}
-
-pub fn put_model(card: &[u8], h: Header, numbers: &[f64], res: &mut [u64])
-    requires { Shaped card.now h × (model_numbers h ≤ length numbers.now) × (model_words h ≤ length res.old) }
-    ensures { res.new ≡ over (model_words_of card.now h numbers.now) res.old }
-{
-    put(
-        &Card {
-            bytes: card,
-            header: h,
-        },
-        numbers,
-        res,
-    );
 }

@@ -78,7 +78,7 @@ pub fn abs_of(x: f64) -> f64
     f64::from_bits(x.to_bits() % 0x8000_0000_0000_0000)
 }
 
-// The larger of x and y: of a NaN and another the other, of zeros of both signs the positive one.
+// The larger of x and y: of a NaN and another the other, of zeros of both signs the positive one. std's `max` leaves the sign of that zero open.
 #[tactic(auto, using(crate::proofs::Leaves::negative_std), unfolding(crate::specs::Number::max))]
 pub fn max_of(x: f64, y: f64) -> f64
     ensures { result ≡ max x y }

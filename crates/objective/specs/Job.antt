@@ -1,5 +1,5 @@
 -- What a fit card gives to its fit.
-use Rattle.std.specs.Prelude.{Err, Ok, ℕ, ◌≤◌, ◌<◌, true, List, length, get_or, Float}
+use Rattle.std.specs.Prelude.{Err, Ok, ℕ, ◌*◌, ◌≤◌, ◌<◌, true, List, length, get_or, Float}
 use Rattle.refusal.specs.Verdicts.{Verdict}
 use Rattle.card_layout.specs.declared.Header.{Header}
 use Rattle.card_places.specs.Shape.{Shaped}
@@ -20,6 +20,10 @@ pub record Placed (s : List ℕ) (h : Header) (places : List ℕ) : Type 0 where
   pub sequences : (r : ℕ) → r < h.records → Sequence s h r
   pub few : length places ≤ 64
   pub inside : (i : ℕ) → i < length places → get_or places i 0 < model_numbers h
+
+-- room for a model's numbers, and for its gates by columns
+abbrev pub Roomy : Header → List Float → List Float → Type 0
+Roomy h model columns = (model_numbers h ≤ length model) × (h.gates * (h.dimension * h.dimension) ≤ length columns)
 
 -- a gradient's verdict with the numbers that it left
 abbrev pub slopes_of : Verdict → List Float → Slopes

@@ -1,27 +1,31 @@
 // What a fit makes of its coordinates: the model that has them, the objective, and the norm of a gradient.
 #![tactic(auto)]
 
-ghost use Rattle.std.specs.Prelude.{◌≡◌, length};
+ghost use Rattle.std.specs.Prelude.{◌≡◌, ℕ, List, map, length};
 ghost use Rattle.std.specs.List.{fold, zip};
 ghost use Rattle.numbers.specs.Number.{◌+ᶠ◌, ◌-ᶠ◌, ◌*ᶠ◌};
 ghost use Rattle.numbers.specs.Slice.{at};
 ghost use Rattle.root.specs.Root.{sqrt};
 ghost use Rattle.matrix.specs.Product.{sum_of};
 ghost use Rattle.model_words.specs.Words.{model_numbers, numbers_of};
+ghost use Rattle.card_layout.specs.declared.Header.{Header};
 ghost use Rattle.descent.specs.Fit as spec;
-ghost use Rattle.objective.specs.Tasks.{job_in};
+ghost use Rattle.objective.specs.Job.{job_by, Placed};
+
+use card_parts::Card;
+use descent::GstOptimizerConfig;
 
 mod task;
 
-pub use task::{Task, Work};
+pub use task::{Limited, Task};
 
 // The card's model with xs at the places: of two at one place the later wins.
-pub fn fill(t: &Task<'_>, xs: &[f64], model: &mut [f64])
-    requires { (length xs.now ≡ length t.now.places.now) × (length model.old ≡ model_numbers t.now.card.now.header) }
-    ensures { model.new ≡ spec.put t.now.places.now xs.now (numbers_of t.now.card.now.bytes.now t.now.card.now.header) }
+pub fn fill(card: &Card<'_>, places: &[usize], xs: &[f64], model: &mut [f64])
+    requires { Placed card.now.bytes.now card.now.header places.now × (length xs.now ≡ length places.now) × (length model.old ≡ model_numbers card.now.header) }
+    ensures { model.new ≡ spec.put places.now xs.now (numbers_of card.now.bytes.now card.now.header) }
 {
-    model_words::load_model(t.card.bytes, t.card.header, model);
-    for (i, place) in t.places.iter().enumerate() {
+    model_words::load(card, model);
+    for (i, place) in places.iter().enumerate() {
         model[*place] = xs[i];
     }
 }
@@ -35,12 +39,12 @@ fn with_distances(s: f64, xs: &[f64], anchor: &[f64]) -> f64
         .fold(s, |s, (x, a)| s + (x - a) * (x - a))
 }
 
-// The objective of coordinates whose log-likelihood is known.
-pub fn objective(t: &Task<'_>, likely: f64, xs: &[f64]) -> f64
-    requires { length xs.now ≡ length t.now.places.now }
-    ensures { result ≡ spec.objective_of (job_in t.now) likely xs.now }
+// The objective of coordinates whose log-likelihood is known: of any card that has the anchor's numbers at as many places.
+pub fn objective(config: GstOptimizerConfig, anchor: &[f64], likely: f64, xs: &[f64]) -> f64
+    ensures { (s : List ℕ) (h : Header) (places : List ℕ) → anchor.now ≡ map (at (numbers_of s h)) places → length xs.now ≡ length places
+        → result ≡ spec.objective_of (job_by s h places config) likely xs.now }
 {
-    -likely + 0.5 * t.config.anchor_strength * with_distances(-0.0, xs, t.anchor)
+    -likely + 0.5 * config.anchor_strength * with_distances(-0.0, xs, anchor)
 }
 
 // The Euclidean norm.

@@ -1,4 +1,4 @@
-// What a fit works on, and the room for one evaluation.
+// What a fit works on.
 #![tactic(auto)]
 
 ghost use Rattle.std.specs.Prelude.{◌≡◌, ◌≤◌, map};
@@ -9,7 +9,7 @@ ghost use Rattle.objective.specs.Job.{Placed};
 use card_parts::Card;
 use descent::GstOptimizerConfig;
 
-// A fit's card, the places of its coordinates' entries, its controls, which are within the card's limits, and its own numbers at those places.
+// A fit's card, the places of its coordinates' entries, its controls, and its own numbers at those places.
 #[derive(Clone, Copy)]
 pub struct Task<'a> {
     pub card: &'a Card<'a>,
@@ -17,23 +17,13 @@ pub struct Task<'a> {
     pub config: GstOptimizerConfig,
     pub anchor: &'a [f64],
     ghost placed: { Placed card.now.bytes.now card.now.header places.now },
-    ghost backtracks: { config.max_backtracks ≤ 255 },
-    ghost iterations: { config.max_iterations ≤ 65535 },
     ghost anchored: { anchor.now ≡ map (at (numbers_of card.now.bytes.now card.now.header)) places.now },
 }
 
-// Room for the numbers of a model, and for its gates by columns.
-#[derive(Drop)]
-pub struct Work {
-    pub model: [f64; 2320],
-    pub columns: [f64; 2048],
-}
-
-impl Work {
-    pub fn new() -> Work {
-        Work {
-            model: [0.0; 2320],
-            columns: [0.0; 2048],
-        }
-    }
+// A task whose controls are within the card's limits, so that the steps of its fit can be counted.
+#[derive(Clone, Copy)]
+pub struct Limited<'a> {
+    pub task: Task<'a>,
+    ghost backtracks: { task.config.max_backtracks ≤ 255 },
+    ghost iterations: { task.config.max_iterations ≤ 65535 },
 }

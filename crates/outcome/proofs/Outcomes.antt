@@ -1,6 +1,8 @@
 -- Outcomes carried from a call to its caller. Assumes nothing.
 use Rattle.std.proofs.Common.{Ok, Err}
-use Rattle.refusal.specs.Verdicts.{good, Verdict}
+use Rattle.std.specs.Result.{IsErrAnd}
+use Rattle.std.proofs.lemmas.Result.{err_from_is_err_and}
+use Rattle.refusal.specs.Verdicts.{good, Verdict, after}
 use Prim.Native.Nat.{ℕ, ◌≤◌}
 use mathlib.Core.Bool.{true, false}
 use mathlib.Core.Path.{◌≡◌, refl, sym, ap, subst, ◌∙◌}
@@ -28,8 +30,21 @@ stays {r = r} l e = subst (λ (o : Outcome). Gives o l l (Err r)) e (record { an
 pub same_outcome : {o p : Outcome} {l m : List ℕ} {r : Answered} → o ≡ p → Gives o l m r → Gives p l m r
 same_outcome {l = l} {m = m} {r = r} e g = subst (λ (o : Outcome). Gives o l m r) e g
 
+-- what a `?` returns
+pub returned : {o : Outcome} {r : Refusal} {a : Answered} (l : List ℕ) → IsErrAnd a (λ q. q ≡ r) → refused r ≡ o → Gives o l l a
+returned {a = a} l i e = let q = err_from_is_err_and a i in rw (q.1, q.2) (stays l e)
+
 pub same_answer : {o : Outcome} {l m : List ℕ} {r q : Answered} → r ≡ q → Gives o l m q → Gives o l m r
 same_answer {o = o} {l = l} {m = m} e g = subst (λ (a : Answered). Gives o l m a) (sym e) g
+
+-- ---- a test's verdict v, as the call w gave it: it refuses, or lets o follow
+
+module _ {v w : Verdict} (o : Outcome) (e : w ≡ v) where
+  pub refused-by : {r : Refusal} → w ≡ Err r → refused r ≡ after v refused o
+  refused-by f = ap (λ (x : Verdict). after x refused o) (sym f ∙ e)
+
+  pub followed : w ≡ good → o ≡ after v refused o
+  followed f = ap (λ (x : Verdict). after x refused o) (sym f ∙ e)
 
 -- ---- a verdict, as a call gave it
 

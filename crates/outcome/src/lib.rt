@@ -4,6 +4,7 @@
 ghost use Rattle.std.specs.Prelude.{◌≡◌};
 ghost use Rattle.outcome.specs.Outcome.{Outcome, roomy, Call, MayRun, Runs};
 
+use descent::GstTermination;
 use refusal::Refusal;
 
 // The header of a sheet, or what an entry of the library tells. There is a case for each that is built. A call answers `Result<Answer, Refusal>`.
@@ -23,12 +24,11 @@ pub enum Answer {
         unital: bool,
         completely_positive: bool,
     },
-    // R, S, E and V of document 01; and how many words the model has, which the header does not show.
+    // Why the fit stopped, of which document 01's R and V are told, S and E; and how many words the model has, which the header does not show.
     Fit {
-        stop: u64,
+        stop: GstTermination,
         steps: u64,
         evaluations: u64,
-        converged: bool,
         words: u64,
     },
     Model {

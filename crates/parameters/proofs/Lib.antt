@@ -1,4 +1,2 @@
 pub mod Fields
 pub mod Places
-pub mod Readings
-pub mod Tests

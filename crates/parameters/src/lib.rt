@@ -4,14 +4,12 @@
 ghost use Rattle.std.specs.Prelude.{◌≡◌, ◌+◌, ◌*◌, ◌^◌, ◌≤◌, ◌<◌, length};
 ghost use Rattle.lists.specs.Build.{over};
 ghost use Rattle.numbers.specs.Word.{word_at};
-ghost use Rattle.card_layout.specs.Limits.{Limited};
-ghost use Rattle.card_places.specs.Shape.{Shaped};
 ghost use Rattle.card_places.specs.Places.{coordinate_at};
 ghost use Rattle.parameters.specs.Parameters.{config_of, good_config, has_entry, place_of, places_of, repeated, parameter_verdict, parameters_verdict, request_verdict};
 
-use card_layout::{Coordinate, Header};
-use card_parts::coordinate_in;
-use card_places::coordinate_at;
+use card_layout::{Coordinate, CoordinateKind};
+use card_parts::Card;
+use card_places::Layout;
 use descent::GstOptimizerConfig;
 use model_words::vector_numbers;
 use numbers::{is_finite, is_positive, number_of, word_at};
@@ -19,6 +17,7 @@ use refusal::{Reason, Refusal};
 use sizes::square;
 
 // Words 1 to 8 of the card.
+#[tactic(auto, unfolding(crate::specs::Parameters::config_of))]
 pub fn config_of(card: &[u8]) -> GstOptimizerConfig
     requires { 72 ≤ length card.now }
     ensures { result ≡ config_of card.now }
@@ -36,6 +35,7 @@ pub fn config_of(card: &[u8]) -> GstOptimizerConfig
 }
 
 // The Rust's `validate_optimizer_config`, from its last test to its first: each name stands for that test and those after it.
+#[tactic(auto, unfolding(crate::specs::Parameters::good_config))]
 fn is_good(c: GstOptimizerConfig) -> bool
     ensures { result ≡ good_config c }
 {
@@ -49,111 +49,113 @@ fn is_good(c: GstOptimizerConfig) -> bool
 }
 
 // The number of a gate's entry, by rows.
-fn entry_number(h: Header, c: Coordinate) -> usize
-    requires { Limited h × (c.row < 2 ^ 24) × (c.column < 2 ^ 24) }
-    ensures { (result ≡ c.row * h.dimension + c.column) × (result < 2 ^ 29) }
+#[tactic(auto, using(crate::proofs::Fields::row_most))]
+fn entry_number(layout: Layout, c: Coordinate) -> usize
+    requires { (c.row < 2 ^ 24) × (c.column < 2 ^ 24) }
+    ensures { (result ≡ c.row * layout.header.dimension + c.column) × (result < 2 ^ 29) }
 {
-    let d = h.dimension;
+    let d = layout.header.dimension;
     c.row * d + c.column
 }
 
 // Whether the entry that a coordinate names exists.
-fn has_entry(h: Header, c: Coordinate) -> bool
-    requires { Limited h × (c.row < 2 ^ 24) × (c.column < 2 ^ 24) }
-    ensures { result ≡ has_entry h c }
+#[tactic(auto, unfolding(crate::specs::Parameters::has_entry))]
+fn has_entry(layout: Layout, c: Coordinate) -> bool
+    requires { (c.row < 2 ^ 24) × (c.column < 2 ^ 24) }
+    ensures { result ≡ has_entry layout.header c }
 {
+    let h = layout.header;
     let d = h.dimension;
-    if c.kind == 1 {
-        return c.column < d;
+    match CoordinateKind::try_from(c.kind) {
+        Ok(CoordinateKind::State) => c.column < d,
+        Ok(CoordinateKind::Effect) => (c.which < h.effects) & (c.column < d),
+        // A gate: the reader lets no other kind pass.
+        _ => (c.which < h.gates) & (entry_number(layout, c) < square(d)),
     }
-    if c.kind == 2 {
-        return (c.which < h.effects) & (c.column < d);
-    }
-    (c.which < h.gates) & (entry_number(h, c) < square(d))
 }
 
 // The place of that entry among the model's numbers.
-fn place_of(h: Header, c: Coordinate) -> usize
-    requires { Limited h × (c.which < 2 ^ 12) × (c.row < 2 ^ 24) × (c.column < 2 ^ 24) }
-    ensures { result ≡ place_of h c }
+#[tactic(auto, using(crate::proofs::Fields::which_most), unfolding(crate::specs::Parameters::place_of))]
+fn place_of(layout: Layout, c: Coordinate) -> usize
+    requires { (c.which < 2 ^ 12) × (c.row < 2 ^ 24) × (c.column < 2 ^ 24) }
+    ensures { result ≡ place_of layout.header c }
 {
+    let h = layout.header;
     let d = h.dimension;
-    if c.kind == 1 {
-        return c.column;
+    match CoordinateKind::try_from(c.kind) {
+        Ok(CoordinateKind::State) => c.column,
+        Ok(CoordinateKind::Effect) => d + c.which * d + c.column,
+        // A gate: the reader lets no other kind pass.
+        _ => vector_numbers(h) + c.which * square(d) + entry_number(layout, c),
     }
-    if c.kind == 2 {
-        return d + c.which * d + c.column;
-    }
-    vector_numbers(h) + c.which * square(d) + entry_number(h, c)
 }
 
 // The word of coordinate i.
-fn coordinate_word(card: &[u8], h: Header, i: usize) -> u64
-    requires { Shaped card.now h × (i < h.coordinates) }
-    ensures { result ≡ word_at card.now (coordinate_at h i) }
+#[tactic(auto, using(card_places::proofs::Within::coordinate_inside))]
+fn coordinate_word(card: &Card<'_>, i: usize) -> u64
+    requires { i < card.now.header.coordinates }
+    ensures { result ≡ word_at card.now.bytes.now (coordinate_at card.now.header i) }
 {
-    word_at(card, coordinate_at(h, i))
+    word_at(card.bytes, card.layout().coordinate_at(i))
 }
 
 // Whether coordinate i is an earlier one again.
-fn is_repeated(card: &[u8], h: Header, i: usize) -> bool
-    requires { Shaped card.now h × (i < h.coordinates) }
-    ensures { result ≡ repeated card.now h i }
+fn is_repeated(card: &Card<'_>, i: usize) -> bool
+    requires { i < card.now.header.coordinates }
+    ensures { result ≡ repeated card.now.bytes.now card.now.header i }
 {
-    let word = coordinate_word(card, h, i);
-    let mut seen = false;
-    for j in 0..i {
-        seen = seen | (coordinate_word(card, h, j) == word);
-    }
-    seen
+    let word = coordinate_word(card, i);
+    (0..i).any(|j| coordinate_word(card, j) == word)
 }
 
-fn check_parameter(card: &[u8], h: Header, i: usize) -> Result<(), Refusal>
-    requires { Shaped card.now h × (i < h.coordinates) }
-    ensures { result ≡ parameter_verdict card.now h i }
+#[tactic(auto, using(crate::proofs::Fields::fields), unfolding(crate::specs::Parameters::parameter_verdict))]
+fn check_parameter(card: &Card<'_>, i: usize) -> Result<(), Refusal>
+    requires { i < card.now.header.coordinates }
+    ensures { result ≡ parameter_verdict card.now.bytes.now card.now.header i }
 {
-    if is_repeated(card, h, i) {
+    if is_repeated(card, i) {
         return Err(Refusal::InvalidGstOptimization(Reason::RepeatedCoordinate));
     }
-    if has_entry(h, coordinate_in(card, h, i)) {
+    if has_entry(card.layout(), card.coordinate_in(i)) {
         return Ok(());
     }
     Err(Refusal::InvalidGstParameter(i as u64))
 }
 
-fn check_parameters(card: &[u8], h: Header) -> Result<(), Refusal>
-    requires { Shaped card.now h }
-    ensures { result ≡ parameters_verdict card.now h }
+fn check_parameters(card: &Card<'_>) -> Result<(), Refusal>
+    ensures { result ≡ parameters_verdict card.now.bytes.now card.now.header }
 {
-    for i in 0..h.coordinates {
-        check_parameter(card, h, i)?;
+    // By number: a coordinate is tested beside those before it.
+    for i in 0..card.header.coordinates {
+        check_parameter(card, i)?;
     }
     Ok(())
 }
 
 // What the Rust tests of a fit before its first evaluation.
-pub fn check_request(card: &[u8], h: Header) -> Result<(), Refusal>
-    requires { Shaped card.now h × (72 ≤ length card.now) }
-    ensures { result ≡ request_verdict card.now h }
+#[tactic(auto, unfolding(crate::specs::Parameters::request_verdict))]
+pub fn check_request(card: &Card<'_>) -> Result<(), Refusal>
+    requires { 72 ≤ length card.now.bytes.now }
+    ensures { result ≡ request_verdict card.now.bytes.now card.now.header }
 {
-    if !is_good(config_of(card)) {
+    if !is_good(config_of(card.bytes)) {
         return Err(Refusal::InvalidGstOptimization(Reason::Controls));
     }
-    if h.records == 0 {
+    if card.header.records == 0 {
         return Err(Refusal::InvalidGstOptimization(Reason::NoRecords));
     }
-    if h.coordinates == 0 {
+    if card.header.coordinates == 0 {
         return Err(Refusal::InvalidGstOptimization(Reason::NoCoordinates));
     }
-    check_parameters(card, h)
+    check_parameters(card)
 }
 
 // The places of the coordinates' entries, at the front of `out`.
-pub fn load_places(card: &[u8], h: Header, out: &mut [usize])
-    requires { Shaped card.now h × (h.coordinates ≤ length out.old) }
-    ensures { out.new ≡ over (places_of card.now h) out.old }
+pub fn load_places(card: &Card<'_>, out: &mut [usize])
+    requires { card.now.header.coordinates ≤ length out.old }
+    ensures { out.new ≡ over (places_of card.now.bytes.now card.now.header) out.old }
 {
-    for (i, place) in out[..h.coordinates].iter_mut().enumerate() {
-        *place = place_of(h, coordinate_in(card, h, i));
+    for (i, place) in out[..card.header.coordinates].iter_mut().enumerate() {
+        *place = place_of(card.layout(), card.coordinate_in(i));
     }
 }

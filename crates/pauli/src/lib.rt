@@ -76,6 +76,7 @@ pub fn filled_of(n: usize, code: usize, row: usize) -> Filled
     let mut place: usize = 1;
     let mut c = code;
     let mut x = row;
+    // By count: the digits come by division, and five numbers are carried on.
     for _ in 0..n {
         let axis = Axis::last(c);
         column += place * axis.flipped(x % 2);
@@ -107,6 +108,7 @@ fn add_string(n: usize, d: usize, code: usize, w: f64, out: &mut [f64])
     requires { (n ≤ 3) × (d ≡ 2 ^ n) × (length out.old ≡ 2 * (d * d)) × (finite w ≡ true) × AllPlain out.old }
     ensures { out.new ≡ with_string n code w out.old }
 {
+    // By places: a row of a string has one entry, anywhere in its row of `out`.
     for row in 0..d {
         add_entry(n, d, code, row, w, out);
     }

@@ -1,13 +1,14 @@
 -- Row 0 and column 0 as numbers that stand one step apart. Assumes nothing.
-use mathlib.Core.Path.{◌≡◌, ◌∙◌, ap}
-use mathlib.Core.Bool.{Bool, true, ◌&&◌}
+use mathlib.Core.Path.{◌≡◌, sym, ◌∙◌, ap}
+use mathlib.Core.Bool.{true, ◌&&◌}
 use mathlib.Core.List.{List}
-use Prim.Native.Nat.{ℕ, ◌+◌, ◌*◌, ◌<◌, ◌≤◌}
-use native.Mathlib.Nat.{mul-one, zero-mul, mul-le-mul_left}
+use Prim.Native.Nat.{ℕ, ◌+◌, ◌*◌}
+use native.Mathlib.Nat.{mul-one, zero-mul}
 use native.Mathlib.Omega.{arith}
 use lib.Ieee.{Float}
-use Rattle.lists.proofs.Folding.{fold-none, fold_more, fold_end, fold_same}
-use Rattle.lists.proofs.Parts.{entry-fits}
+use Rattle.std.specs.List.{list_all, range_with_len}
+use Rattle.lists.proofs.Chains.{fold-all, fold-range}
+use Rattle.lists.proofs.Folding.{fold_same}
 use Rattle.numbers.specs.Slice.{at}
 use Rattle.physical.specs.Physical.{unit_at, near, near_unit, trace_preserving, unital}
 
@@ -25,22 +26,7 @@ pub column-steps : (p : ℕ) (t : Float) (values : List Float) → near_unit p t
 unfolding unital
 column-steps p t values = near_same p t values (λ k. k * p) (λ k. k * p + 0) (λ k. omega arith)
 
--- the numbers lie within the matrix
-pub step_in : (k p step : ℕ) → k < p → step ≤ p → k * step < p * p
-step_in k p step h s =
-    let w : k * step ≤ k * p = mul-le-mul_left k s in
-    omega (arith, entry-fits k 0 p p h (omega arith))
-
--- ---- the loop over them: what is found after k numbers
-
-pub near_none : (t : Float) (f : ℕ → Float) → true ≡ near_unit 0 t f
+-- `(0..p).all(..)`
+pub near-range : (p : ℕ) (t : Float) (f : ℕ → Float) → list_all (λ k. near t (f k) (unit_at k)) (range_with_len 0 p) ≡ near_unit p t f
 unfolding near_unit
-near_none t f = fold-none _ true
-
-pub near-more : (k : ℕ) (t : Float) (f : ℕ → Float) (good found : Bool) (u : Float) → good ≡ near_unit k t f → u ≡ unit_at k → found ≡ near t (f k) u → (good && found) ≡ near_unit (k + 1) t f
-unfolding near_unit
-near-more k t f good found u a b c = fold_more _ k true good (good && found) a (ap (λ (x : Bool). good && x) (c ∙ ap (near t (f k)) b))
-
-pub near-end : (k p : ℕ) (t : Float) (f : ℕ → Float) (good : Bool) → k ≡ p → good ≡ near_unit k t f → good ≡ near_unit p t f
-unfolding near_unit
-near-end k p t f good h a = fold_end _ k p true good h a
+near-range p t f = sym (fold-all (λ k. near t (f k) (unit_at k)) true (range_with_len 0 p)) ∙ fold-range (λ good k. good && near t (f k) (unit_at k)) true p

@@ -17,16 +17,12 @@ fn is_near(tolerance: f64, x: f64, y: f64) -> bool
     numbers::abs_of(x - y) <= tolerance
 }
 
-// Every number that stands `step` after the last, from the first on. By an index: what std ensures of `step_by` does not lead to a list in one step.
+// Every number that stands `step` after the last, from the first on.
 fn is_near_unit(values: &[f64], p: usize, tolerance: f64, step: usize) -> bool
     requires { (p ≤ 16) × (step ≤ p) × (p * p ≤ length values.now) }
     ensures { result ≡ near_unit p tolerance (λ k. at values.now (k * step)) }
 {
-    let mut good = true;
-    for k in 0..p {
-        good &= is_near(tolerance, values[k * step], unit_at(k));
-    }
-    good
+    (0..p).all(|k| is_near(tolerance, values[k * step], unit_at(k)))
 }
 
 // The Rust's `is_trace_preserving`, of row 0.

@@ -7,10 +7,9 @@ use native.Mathlib.Omega.{arith}
 use lib.IntN.{ℤ}
 use lib.Dec.{ltb}
 use lib.Ieee.Fits.{up_pos}
-use lib.Ieee.{Float, nan, inf, fin, is_nan, lt, le, eq, ne, neg, of_bits, up, down}
+use lib.Ieee.{Float, nan, inf, fin, is_nan, lt, le, eq, neg, of_bits, up, down}
 use borrow.Author.Tests.{ltb-true, ltb-false, le-ltb}
 use Rattle.numbers.specs.Number.{abs, max, negative, precedes}
-use Rattle.numbers.proofs.Leaves.{is-nan, no_nan}
 use Rattle.pivots.specs.Pivots.{magnitude, stays_largest}
 
 -- a number whose sign is set and that is not below zero is a zero
@@ -153,11 +152,3 @@ pub next-scale : (s x y t : Float) → Sized s → y ≡ magnitude x → t ≡ c
 next-scale s x y t h a b =
     let e : t ≡ max s (abs x) = b ∙ ap (λ (y : Float). cond (lt s y) y s) a ∙ same-larger s x h in
     (e, subst Sized (sym e) (still-sized s x h))
-
--- x differs from itself exactly where it is a NaN
-pub differs : (x : Float) → ne x x ≡ is_nan x
-differs x = go (ne x x) refl
-  where
-    go : (b : Bool) → ne x x ≡ b → b ≡ is_nan x
-    go true h = sym (is-nan x h)
-    go false h = sym (no_nan x h)

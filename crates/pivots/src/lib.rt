@@ -37,6 +37,7 @@ pub fn scale_of(a: &[f64], n: usize) -> f64
     ensures { result ≡ scale_of (n * n) a.now }
 {
     let mut s = 0.0;
+    // By places, since `chunks_exact` refuses rows of no number.
     for i in 0..n {
         let start = i * n;
         s = larger(s, row_scale(&a[start..start + n]));
@@ -59,10 +60,10 @@ fn stays_largest(x: f64, s: f64) -> bool
     if x < s {
         return true;
     }
-    if x != x {
+    if x.is_nan() {
         return false;
     }
-    s != s
+    s.is_nan()
 }
 
 // The one that is kept, or the other.
@@ -80,6 +81,7 @@ pub fn pivot_row(work: &[f64], n: usize, w: usize, k: usize) -> usize
     let m = n - k;
     let mut p = k;
     let mut size = size_at(work, n, w, k, k);
+    // By places: the entries of a column stand w numbers apart.
     for t in 0..m {
         let x = size_at(work, n, w, k, k + t);
         let keep = stays_largest(x, size);

@@ -9,12 +9,12 @@ ghost use Rattle.refusal.specs.Verdicts.{finite_or, checked_numbers};
 // Why a fit cannot be run, which the Rust says in words.
 #[derive(Clone, Copy, Debug, PartialEq, Eq)]
 pub enum Reason {
-    Controls,
-    NoRecords,
-    NoCoordinates,
-    RepeatedCoordinate,
-    GradientNotFinite,
-    Name,
+    Controls = 1,
+    NoRecords = 2,
+    NoCoordinates = 3,
+    RepeatedCoordinate = 4,
+    GradientNotFinite = 5,
+    Name = 6,
 }
 
 impl Reason {
@@ -22,14 +22,7 @@ impl Reason {
     pub fn number(self) -> u64
         ensures { result ≡ reason_number self }
     {
-        match self {
-            Reason::Controls => 1,
-            Reason::NoRecords => 2,
-            Reason::NoCoordinates => 3,
-            Reason::RepeatedCoordinate => 4,
-            Reason::GradientNotFinite => 5,
-            Reason::Name => 6,
-        }
+        self as u64
     }
 }
 

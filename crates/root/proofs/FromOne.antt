@@ -1,6 +1,8 @@
 -- The root of a number from 1 to 2, by the digits of both. Assumes nothing.
 use mathlib.Core.Path.{◌≡◌, refl, sym, ◌∙◌, ap, subst}
-use mathlib.Core.Bool.{false}
+use mathlib.Core.Bool.{Bool, true, false}
+use Rattle.std.specs.Prelude.{MatchOption}
+use Rattle.std.specs.Bool.{then_some}
 use Prim.Native.Nat.{ℕ, ◌+◌, ◌*◌, ◌^◌, ◌<◌, ◌≤◌}
 use native.Mathlib.Nat.{lt_of_lt_of_le, mul-pos}
 use native.Mathlib.Omega.{arith}
@@ -37,3 +39,8 @@ root-from-one x r o =
 -- d is the root of x, if its digits are those of the nearest whole number
 pub by_digits : (x d : Float) (m p : ℕ) → FromOne x m → FromOne d p → Found m p → d ≡ sqrt x
 by_digits x d m p o q f = q.is ∙ whole-root m 1074 0 m p f.is (once m 0 refl) refl (lit≤ tt) f.low f.high ∙ sym (root-from-one x m o)
+
+-- what holds of a value that is there if b is true
+pub told : (b : Bool) (d : Float) (P : Float → Type 0) → (b ≡ true → P d) → MatchOption (then_some b d) (Unit {0}) P
+told true d P h = h refl
+told false d P h = tt

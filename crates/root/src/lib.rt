@@ -163,19 +163,12 @@ fn sooner(x: f64) -> Option<f64>
     let m = digits(x)?;
     let d = nearer(x, about(x));
     let p = digits(d)?;
-    if m <= middle(p) && middle(p - 1) < m {
-        Some(d)
-    } else {
-        None
-    }
+    (m <= middle(p) && middle(p - 1) < m).then_some(d)
 }
 
 // The square root, and sooner than by `sqrt` where x is from 1 to 2.
 pub fn sqrt_from_one(x: f64) -> f64
     ensures { result ≡ sqrt x }
 {
-    match sooner(x) {
-        Some(r) => r,
-        None => sqrt(x),
-    }
+    sooner(x).unwrap_or_else(|| sqrt(x))
 }

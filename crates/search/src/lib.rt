@@ -1,17 +1,18 @@
 // The trials of one step: the gradient's direction, with a length that is halved until the objective falls.
 #![tactic(auto)]
 
-ghost use Rattle.std.specs.Prelude.{◌≡◌, length};
+ghost use Rattle.std.specs.Prelude.{◌≡◌, ◌≤◌, length};
 ghost use Rattle.lists.specs.Build.{build};
 ghost use Rattle.numbers.specs.Number.{◌-ᶠ◌, ◌*ᶠ◌};
 ghost use Rattle.numbers.specs.Slice.{at};
 ghost use Rattle.descent.specs.Fit as spec;
+ghost use Rattle.objective.specs.Job.{Roomy};
 ghost use Rattle.objective.specs.Tasks.{job_in};
 ghost use Rattle.search.specs.Found.{FoundAt};
 
 use descent::Accepted;
 use evaluation::evaluate;
-use objective::{Task, Work};
+use objective::Task;
 use refusal::Refusal;
 
 // The coordinates xs less s times g.
@@ -31,15 +32,18 @@ pub fn search(
     g: &[f64],
     o: f64,
     t: &mut [f64],
-    work: &mut Work,
+    model: &mut [f64],
+    columns: &mut [f64],
 ) -> Result<Option<Accepted>, Refusal>
-    requires { (length xs.now ≡ length task.now.places.now) × (length g.now ≡ length task.now.places.now) × (length t.old ≡ length task.now.places.now) }
+    requires { (length xs.now ≡ length task.now.places.now) × (length g.now ≡ length task.now.places.now) × (length t.old ≡ length task.now.places.now) × (task.now.config.max_backtracks ≤ 255)
+        × Roomy task.now.card.now.header model.old columns.old }
     ensures { (result ≡ spec.search_to (job_in task.now) xs.now g.now o task.now.config.max_backtracks) × FoundAt (job_in task.now) xs.now g.now t.new result }
 {
     let mut s = task.config.initial_step;
+    // By number, which the answer tells.
     for k in 0..task.config.max_backtracks {
         trial(xs, g, s, t);
-        if let Some(v) = evaluate(task, t, work)? {
+        if let Some(v) = evaluate(task, t, model, columns)? {
             if v < o {
                 return Ok(Some(Accepted {
                     trial: k,

@@ -123,7 +123,7 @@ fn check_gates(sequence: &[u64], gates: usize) -> Result<(), Refusal>
     gate_set::check_sequence(&room[..sequence.len()], gates)
 }
 
-// All that is tested.
+// All that is tested. The arguments come one by one, as those of the library's entry, which are C's.
 pub fn check<'a>(
     d: usize,
     effects: usize,

@@ -18,7 +18,7 @@ use Rattle.refusal.proofs.Verdicts.{both-good}
 use Rattle.pauli.specs.Density.{density_of, inverted_of, computed_of}
 use Rattle.pauli.proofs.Sums.{length-density}
 use Rattle.pauli.proofs.Admission.{computed-density}
-use Rattle.density.specs.Projection.{projected_verdict, projected_numbers}
+use Rattle.density.specs.Projection.{projected_verdict}
 use Rattle.density.proofs.Outcome.{length-projected}
 use Rattle.transfer.specs.Process.{transfer_of, process_of, process_numbers}
 use Rattle.transfer.proofs.Processes.{length-transfer, computed-process}
@@ -59,14 +59,14 @@ two-most n h = parts-most (2 ^ n) (pow-le-pow_right {n = 2} (lit< tt) {i = n} {j
 -- ---- kind 1
 
 module _ (s : List ℕ) (n : ℕ) (w : Verdict) (e : w ≡ inverted_of n (number_at s 1) (numbers_at s 2 (4 ^ n))) where
-  pub density-refused : (r : Refusal) → w ≡ Err r → refused r ≡ density_sheet s n
+  pub density_refused : (r : Refusal) → w ≡ Err r → refused r ≡ density_sheet s n
   unfolding density_sheet
-  density-refused r f = not-shown _ _ _ w r e f
+  density_refused r f = not-shown _ _ _ w r e f
 
-  pub density-shown : (d : ℕ) (work₀ work : List Float) (l m : List ℕ) → w ≡ good → d ≡ 2 ^ n
+  pub density_shown : (d : ℕ) (work₀ work : List Float) (l m : List ℕ) → w ≡ good → d ≡ 2 ^ n
       → work ≡ over (computed_of n (number_at s 1) (numbers_at s 2 (4 ^ n))) work₀ → m ≡ words_of (2 * (d * d)) work ++ drop (2 * (d * d)) l → Gives (density_sheet s n) l m (Ok (Density d))
   unfolding density_sheet
-  density-shown d work₀ work l m f k o p =
+  density_shown d work₀ work l m f k o p =
       let es = numbers_at s 2 (4 ^ n) in
       let c = computed-density n (number_at s 1) es (sym e ∙ f) in
       same_answer (ap (λ (x : ℕ). Ok (Density x)) k)
@@ -81,39 +81,29 @@ pub estimate-most : (d : ℕ) → d ≤ 16 → 2 * (d * d) ≤ 512
 estimate-most d h = omega (arith, square-most d h)
 
 module _ (s : List ℕ) (d : ℕ) (w : Verdict) (e : w ≡ projected_verdict d (number_at s 1) (word_at s 2) (estimate_of s d)) where
-  pub projected-refused : (r : Refusal) → w ≡ Err r → refused r ≡ projected_sheet s d
+  pub projected_refused : (r : Refusal) → w ≡ Err r → refused r ≡ projected_sheet s d
   unfolding projected_sheet
-  projected-refused r f = not-shown _ _ _ w r e f
+  projected_refused r f = not-shown _ _ _ w r e f
 
-  pub projected-shown : (q : ℕ) (work₀ work : List Float) (l m : List ℕ) → w ≡ good → q ≡ d * d
+  pub projected_shown : (q : ℕ) (work₀ work : List Float) (l m : List ℕ) → w ≡ good → q ≡ d * d
       → work ≡ over (projection_numbers s d) work₀ → m ≡ words_of (2 * q) work ++ drop (2 * q) l → Gives (projected_sheet s d) l m (Ok (Projected d))
   unfolding projected_sheet
-  projected-shown q work₀ work l m f k o p =
+  projected_shown q work₀ work l m f k o p =
       let x = projection_numbers s d in
       is-shown _ _ _ w l m e f
       (emitted x (drop (length x) work₀) work (2 * (d * d)) (2 * q) l m (length-projected d (number_at s 1) (word_at s 2) (estimate_of s d) (sym f ∙ e)) (ap (λ (y : ℕ). 2 * y) k) o p)
 
--- the card's estimate, as it was loaded
-pub projection-of-card : (s : List ℕ) (d q : ℕ) (t : Float) (rotations : ℕ) (e : List Float) (w : Verdict) (x work₀ : List Float) → t ≡ number_at s 1 → rotations ≡ word_at s 2 → q ≡ d * d → e ≡ numbers_at s 3 (2 * q)
-    → (w ≡ projected_verdict d t rotations e) × (x ≡ over (projected_numbers d t rotations e) work₀)
-    → (w ≡ projected_verdict d (number_at s 1) (word_at s 2) (estimate_of s d)) × (x ≡ over (projection_numbers s d) work₀)
-projection-of-card s d q t rotations e w x work₀ a b k f g =
-    let h : e ≡ estimate_of s d = f ∙ ap (λ (y : ℕ). numbers_at s 3 (2 * y)) k in (
-      g.0 ∙ ap₂ (λ (y : Float) (r : ℕ). projected_verdict d y r e) a b ∙ ap (projected_verdict d (number_at s 1) (word_at s 2)) h,
-      g.1 ∙ ap₂ (λ (y : Float) (r : ℕ). over (projected_numbers d y r e) work₀) a b ∙ ap (λ (y : List Float). over (projected_numbers d (number_at s 1) (word_at s 2) y) work₀) h,
-    )
-
 -- ---- kind 3
 
 module _ (s : List ℕ) (n p : ℕ) (k : p ≡ 4 ^ n) (w : Verdict) (e : w ≡ process_of (number_at s 1) (vectors_of s p) p) where
-  pub process-refused : (r : Refusal) → w ≡ Err r → refused r ≡ process_sheet s n
+  pub process_refused : (r : Refusal) → w ≡ Err r → refused r ≡ process_sheet s n
   unfolding process_sheet_of
-  process-refused r f = not-shown _ _ _ w r e f ∙ ap (process_sheet_of s) k
+  process_refused r f = not-shown _ _ _ w r e f ∙ ap (process_sheet_of s) k
 
-  pub process-shown : (q : ℕ) (work₀ work : List Float) (l m : List ℕ) → w ≡ good → q ≡ p * p
+  pub process_shown : (q : ℕ) (work₀ work : List Float) (l m : List ℕ) → w ≡ good → q ≡ p * p
       → work ≡ over (process_numbers (number_at s 1) (vectors_of s p) p) work₀ → m ≡ words_of q work ++ drop q l → Gives (process_sheet s n) l m (Ok (Process p))
   unfolding process_sheet_of
-  process-shown q work₀ work l m f h o g =
+  process_shown q work₀ work l m f h o g =
       let t = number_at s 1 in
       let v = vectors_of s p in
       let c = computed-process t v p (sym e ∙ f) in
@@ -137,14 +127,14 @@ module _ (f : Bool → Answer) (found : Positivity) (l : List ℕ) where
   told-known (Err q) b c e g = let z : ◌≡◌ {A = ℕ} 0 1 = cc in absurd (omega arith)
 
 module _ (n : ℕ) (t : Float) (rotations : ℕ) (transfer : List Float) (found : Positivity) (e : found ≡ told (positivity_verdict n t rotations transfer) (completely_positive n t rotations transfer)) where
-  pub physical-refused : (r : Refusal) → found ≡ Err r → (l : List ℕ) → Gives (physical_of n t rotations transfer) l l (Err r)
+  pub physical_refused : (r : Refusal) → found ≡ Err r → (l : List ℕ) → Gives (physical_of n t rotations transfer) l l (Err r)
   unfolding physical_of
-  physical-refused r f l = told-refused (Physical (trace_preserving (4 ^ n) t transfer) (unital (4 ^ n) t transfer)) found l (positivity_verdict n t rotations transfer) (completely_positive n t rotations transfer) r e f
+  physical_refused r f l = told-refused (Physical (trace_preserving (4 ^ n) t transfer) (unital (4 ^ n) t transfer)) found l (positivity_verdict n t rotations transfer) (completely_positive n t rotations transfer) r e f
 
-  pub physical-shown : (p : ℕ) (a b c : Bool) → p ≡ 4 ^ n → found ≡ Ok c → a ≡ trace_preserving p t transfer → b ≡ unital p t transfer
+  pub physical_shown : (p : ℕ) (a b c : Bool) → p ≡ 4 ^ n → found ≡ Ok c → a ≡ trace_preserving p t transfer → b ≡ unital p t transfer
       → (l : List ℕ) → Gives (physical_of n t rotations transfer) l l (Ok (Physical a b c))
   unfolding physical_of
-  physical-shown p a b c k f g h l =
+  physical_shown p a b c k f g h l =
       same_answer (ap₂ (λ (x y : Bool). Ok (Physical x y c)) (g ∙ ap (λ (q : ℕ). trace_preserving q t transfer) k) (h ∙ ap (λ (q : ℕ). unital q t transfer) k))
       (told-known (Physical (trace_preserving (4 ^ n) t transfer) (unital (4 ^ n) t transfer)) found l (positivity_verdict n t rotations transfer) (completely_positive n t rotations transfer) c e f)
 
@@ -161,29 +151,29 @@ module _ (s : List ℕ) (n : ℕ) where
 
 module _ (s : List ℕ) (h : Header) where
   -- the model's verdict, as a call gave it
-  pub model-refused : (w : Verdict) (r : Refusal) → w ≡ checked_of s h → w ≡ Err r → (Err r ≡ gauge_verdict s h) × ([] ≡ gauge_numbers s h)
+  pub model_refused : (w : Verdict) (r : Refusal) → w ≡ checked_of s h → w ≡ Err r → (Err r ≡ gauge_verdict s h) × ([] ≡ gauge_numbers s h)
   unfolding gauge_verdict gauge_numbers
-  model-refused w r e f = (ap (λ (x : Verdict). first_of x (gauged_of s h)) (sym f ∙ e), ap (λ (x : Verdict). after x (λ _. []) (gauged_numbers s h)) (sym f ∙ e))
+  model_refused w r e f = (ap (λ (x : Verdict). first_of x (gauged_of s h)) (sym f ∙ e), ap (λ (x : Verdict). after x (λ _. []) (gauged_numbers s h)) (sym f ∙ e))
 
-  pub model-good : (w : Verdict) → w ≡ checked_of s h → w ≡ good → (gauged_of s h ≡ gauge_verdict s h) × (gauged_numbers s h ≡ gauge_numbers s h)
+  pub model_good : (w : Verdict) → w ≡ checked_of s h → w ≡ good → (gauged_of s h ≡ gauge_verdict s h) × (gauged_numbers s h ≡ gauge_numbers s h)
   unfolding gauge_verdict gauge_numbers
-  model-good w e f = (ap (λ (x : Verdict). first_of x (gauged_of s h)) (sym f ∙ e), ap (λ (x : Verdict). after x (λ _. []) (gauged_numbers s h)) (sym f ∙ e))
+  model_good w e f = (ap (λ (x : Verdict). first_of x (gauged_of s h)) (sym f ∙ e), ap (λ (x : Verdict). after x (λ _. []) (gauged_numbers s h)) (sym f ∙ e))
 
   -- where all is good the new model was computed
-  pub new-model : good ≡ gauge_verdict s h → gauge_numbers s h ≡ new_model s h
+  pub computed_model : good ≡ gauge_verdict s h → gauge_numbers s h ≡ new_model s h
   unfolding gauge_verdict gauge_numbers
-  new-model e =
+  computed_model e =
       let b = both-good (checked_of s h) (gauged_of s h) e in
       ap (λ (x : Verdict). after x (λ _. []) (gauged_numbers s h)) (sym b.0) ∙ good-model s h b.1
 
-  pub length-new-model : (x : List Float) → x ≡ new_model s h → length x ≡ model_numbers h
-  length-new-model x e = ap length e ∙ model-length s h
+  pub length_new_model : (x : List Float) → x ≡ new_model s h → length x ≡ model_numbers h
+  length_new_model x e = ap length e ∙ model-length s h
 
-  pub gauge-refused : (w : Verdict) (r : Refusal) → w ≡ gauge_verdict s h → w ≡ Err r → refused r ≡ gauge_sheet s h
+  pub gauge_refused : (w : Verdict) (r : Refusal) → w ≡ gauge_verdict s h → w ≡ Err r → refused r ≡ gauge_sheet s h
   unfolding gauge_sheet
-  gauge-refused w r e f = not-shown _ _ _ w r e f
+  gauge_refused w r e f = not-shown _ _ _ w r e f
 
-  pub gauge-shown : (w : Verdict) (count : ℕ) (front : List Float) (l m : List ℕ) → w ≡ gauge_verdict s h → w ≡ good → count ≡ model_words h → front ≡ new_model s h
+  pub gauge_shown : (w : Verdict) (count : ℕ) (front : List Float) (l m : List ℕ) → w ≡ gauge_verdict s h → w ≡ good → count ≡ model_words h → front ≡ new_model s h
       → m ≡ over (model_words_of s h front) l → Gives (gauge_sheet s h) l m (Ok (Model count))
   unfolding gauge_sheet
-  gauge-shown w count front l m e f k g p = same_answer (ap (λ (x : ℕ). Ok (Model x)) k) (is-shown _ _ _ w l m e f (p ∙ ap (λ (x : List Float). over (model_words_of s h x) l) g))
+  gauge_shown w count front l m e f k g p = same_answer (ap (λ (x : ℕ). Ok (Model x)) k) (is-shown _ _ _ w l m e f (p ∙ ap (λ (x : List Float). over (model_words_of s h x) l) g))

@@ -1,4 +1,4 @@
-// The sheets of kinds 1 to 4 and 6, each of a card of its kind.
+// The sheets of kinds 1 to 4 and 6, each of a card of its kind. Those of kinds 1 to 4 take bytes and a size: of a card they ask only that its words are there.
 #![tactic(auto)]
 
 ghost use Rattle.std.specs.Prelude.{◌≡◌, List, ℕ, ◌+◌, ◌*◌, ◌^◌, ◌≤◌, length};
@@ -8,11 +8,10 @@ ghost use Rattle.numbers.specs.Slice.{number_at, numbers_at};
 ghost use Rattle.pauli.specs.Density.{inverted_of};
 ghost use Rattle.density.specs.Projection.{projected_verdict};
 ghost use Rattle.transfer.specs.Process.{process_of};
-ghost use Rattle.card_places.specs.Shape.{Shaped};
 ghost use Rattle.outcome.specs.Outcome.{Gives};
 ghost use Rattle.sheets.specs.Sheets.{vectors_of, density_numbers, estimate_of, projection_numbers, transfer_numbers, density_sheet, projected_sheet, process_sheet, physical_of, physical_sheet, gauge_verdict, gauge_numbers, gauge_sheet};
 
-use card_layout::Header;
+use card_parts::Card;
 use outcome::Answer;
 use refusal::Refusal;
 use sizes::{four_to, square};
@@ -37,6 +36,7 @@ fn invert_density(card: &[u8], n: usize, work: &mut [f64]) -> Result<(), Refusal
 }
 
 // Kind 1.
+#[tactic(auto, using(crate::proofs::Shown::density_refused, outcome::proofs::Outcomes::stays))]
 pub fn density_sheet(
     card: &[u8],
     n: usize,
@@ -67,6 +67,7 @@ fn project(card: &[u8], d: usize, work: &mut [f64]) -> Result<(), Refusal>
 }
 
 // Kind 2.
+#[tactic(auto, using(crate::proofs::Shown::projected_refused, outcome::proofs::Outcomes::stays))]
 pub fn projected_sheet(
     card: &[u8],
     d: usize,
@@ -95,6 +96,7 @@ fn invert_process(card: &[u8], p: usize, work: &mut [f64]) -> Result<(), Refusal
 }
 
 // Kind 3.
+#[tactic(auto, using(crate::proofs::Shown::process_refused, outcome::proofs::Outcomes::stays))]
 pub fn process_sheet(
     card: &[u8],
     n: usize,
@@ -145,28 +147,25 @@ pub fn physical_sheet(card: &[u8], n: usize) -> Result<Answer, Refusal>
 }
 
 // Checks the model and transforms it; the new model's numbers go to the front of the work slice.
-fn transform(card: &[u8], h: Header, work: &mut [f64]) -> Result<(), Refusal>
-    requires { Shaped card.now h × (h.kind ≡ 6) × (8192 ≤ length work.old) }
-    ensures { (result ≡ gauge_verdict card.now h) × (work.new ≡ over (gauge_numbers card.now h) work.old) }
+#[tactic(auto, using(crate::proofs::Shown::model_refused, crate::proofs::Shown::model_good), unfolding(model::specs::Checked::checked_of))]
+fn transform(card: &Card<'_>, work: &mut [f64]) -> Result<(), Refusal>
+    requires { (card.now.header.kind ≡ 6) × (8192 ≤ length work.old) }
+    ensures { (result ≡ gauge_verdict card.now.bytes.now card.now.header) × (work.new ≡ over (gauge_numbers card.now.bytes.now card.now.header) work.old) }
 {
-    model::check_model(card, h)?;
-    gauge::gauge_transform(card, h, work)
+    model::check(card)?;
+    gauge::transform(card, work)
 }
 
 // Kind 6.
-pub fn gauge_sheet(
-    card: &[u8],
-    h: Header,
-    res: &mut [u64],
-    work: &mut [f64],
-) -> Result<Answer, Refusal>
-    requires { Shaped card.now h × (h.kind ≡ 6) × (4096 ≤ length res.old) × (8192 ≤ length work.old) }
-    ensures { Gives (gauge_sheet card.now h) res.old res.new result × (work.new ≡ over (gauge_numbers card.now h) work.old) }
+#[tactic(auto, using(crate::proofs::Shown::gauge_refused, crate::proofs::Shown::computed_model, crate::proofs::Shown::length_new_model, outcome::proofs::Outcomes::stays))]
+pub fn gauge_sheet(card: &Card<'_>, res: &mut [u64], work: &mut [f64]) -> Result<Answer, Refusal>
+    requires { (card.now.header.kind ≡ 6) × (4096 ≤ length res.old) × (8192 ≤ length work.old) }
+    ensures { Gives (gauge_sheet card.now.bytes.now card.now.header) res.old res.new result × (work.new ≡ over (gauge_numbers card.now.bytes.now card.now.header) work.old) }
 {
-    transform(card, h, work)?;
-    let count = model_words::model_numbers(h);
-    model_words::put_model(card, h, &work[..count], res);
+    transform(card, work)?;
+    let count = model_words::model_numbers(card.header);
+    model_words::put(card, &work[..count], res);
     Ok(Answer::Model {
-        words: card_places::model_words(h) as u64,
+        words: card.layout().model_words() as u64,
     })
 }

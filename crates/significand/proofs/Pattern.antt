@@ -110,6 +110,11 @@ shift-up w p h = record {
     split : w * 2 ^ 53 ≡ w * 2 ^ (52 - j) * 2 ^ suc j
     split = ap (λ (k : ℕ). w * 2 ^ k) parts ∙ ap (λ (k : ℕ). w * k) (pow-add 2 (52 - j) (suc j)) ∙ sym (mul_assoc w (2 ^ (52 - j)) (2 ^ suc j))
 
+-- of no units both are 0
+pub none : (x : Float) → units_of x ≡ 0 → (units_of x ≡ 0) × (significand_of x ≡ 0) × (exponent_of x ≡ 0)
+unfolding significand_of exponent_of size
+none x e = (e, rw e refl, rw e refl)
+
 module _ (x : Float) (f : T (fits binary64 x)) (h : finite x ≡ true) where
   abbrev w : ℕ
   w = to_bits binary64 x % 0x8000_0000_0000_0000

@@ -14,7 +14,7 @@ pub struct Parts {
 
 // The parts of a finite number other than zero. A zero, a NaN and an infinity have none.
 pub fn parts_of(x: f64) -> Option<Parts>
-    ensures { MatchOption result (units_of x ≡ 0) (λ p. (0 < units_of x) × (p.significand ≡ significand_of x) × (p.exponent ≡ exponent_of x)) }
+    ensures { MatchOption result ((units_of x ≡ 0) × (significand_of x ≡ 0) × (exponent_of x ≡ 0)) (λ p. (0 < units_of x) × (p.significand ≡ significand_of x) × (p.exponent ≡ exponent_of x)) }
 {
     if !numbers::is_finite(x) {
         return None;

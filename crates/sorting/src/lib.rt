@@ -12,7 +12,8 @@ fn number_at(w: &[f64], i: usize) -> f64
     if i < w.len() { w[i] } else { f64::NAN }
 }
 
-// Whether x comes before y.
+// Whether x comes before y. As a closure in place of `falling` the order would be no plainer: each contract below would have to say what the closure tells of
+// any two numbers, and `insert` that the place lies within.
 fn comes_first(falling: bool, x: f64, y: f64) -> bool
     ensures { result ≡ before falling x y }
 {
@@ -47,6 +48,7 @@ pub fn arrange(falling: bool, w: &[f64], order: &mut [usize], s: &mut [f64])
     requires { (length order.old ≡ length w.now) × (length s.old ≡ length w.now) }
     ensures { (order.new ≡ order_by falling w.now (length w.now)) × (s.new ≡ sorted_by falling w.now) }
 {
+    // By places: each turn changes the order of those before it, and reads all of w.
     for k in 0..w.len() {
         insert(falling, w, order, k);
     }

@@ -29,9 +29,6 @@ use Rattle.steps.specs.Running.{point_of, state_by, state_of, Sloped, Steep, kee
 pub found_of : (J : Job) (xs g y : List Float) (a : Search) {k : ℕ} {v : Float} → FoundAt J xs g y a → a ≡ found k v → (y ≡ trial J xs g k) × (k < backtracks J)
 found_of J xs g y a f e = subst (FoundAt J xs g y) e f
 
-pub found-few : (J : Job) (xs g y : List Float) (a : Search) {k : ℕ} {v : Float} → size J ≤ 64 → backtracks J ≤ 255 → FoundAt J xs g y a → a ≡ found k v → 2 * size J + (k + 1) ≤ 383
-found-few J xs g y a few low f e = omega (arith, (found_of J xs g y a f e).1)
-
 length-trial : (J : Job) (xs g : List Float) (k : ℕ) → length (trial J xs g k) ≡ size J
 unfolding trial
 length-trial J xs g k = length-build (size J) _

@@ -1,15 +1,16 @@
 // The steps of a fit, on a small state that is passed on by value.
 #![tactic(auto)]
 
-ghost use Rattle.std.specs.Prelude.{◌≡◌, ◌<◌, Ok, None, length};
+ghost use Rattle.std.specs.Prelude.{◌≡◌, ◌≤◌, ◌<◌, Ok, None, length, take, drop};
 ghost use Rattle.std.specs.Float.Ieee.{le};
 ghost use Rattle.numbers.specs.Number.{◌-ᶠ◌};
+ghost use Rattle.objective.specs.Job.{Roomy};
 ghost use Rattle.objective.specs.Tasks.{job_in};
 ghost use Rattle.steps.specs.Running.{point_of, Sloped, Underway, Led, Ended, rest_of, accepted_of};
 
 use descent::GstTermination;
 use evaluation::gradient;
-use objective::{Task, Work, norm};
+use objective::{Limited, Task, norm};
 use refusal::Refusal;
 use search::search;
 
@@ -30,12 +31,10 @@ fn stopped(r: &Running, n: u64, z: f64, k: GstTermination) -> Running
     ensures { result ≡ rest_of r.now n z k }
 {
     Running {
-        coordinates: r.coordinates,
-        objective: r.objective,
         norm: z,
-        steps: r.steps,
         evaluations: r.evaluations + n,
         stop: Some(k),
+        ..*r
     }
 }
 
@@ -45,47 +44,49 @@ fn moved(tolerance: f64, r: &Running, t: [f64; 64], v: f64, n: u64) -> Running
     ensures { result ≡ accepted_of r.now t v n (le (r.now.objective -ᶠ v) tolerance) }
 {
     let small = r.objective - v <= tolerance;
-    let stop = if small {
-        Some(GstTermination::ObjectiveTolerance)
-    } else {
-        None
-    };
     Running {
         coordinates: t,
         objective: v,
         norm: r.norm,
         steps: r.steps + 1,
         evaluations: r.evaluations + n,
-        stop,
+        stop: small.then_some(GstTermination::ObjectiveTolerance),
     }
 }
 
-// The gradient at r into g, and its norm.
+// The gradient at r to the front of g, and its norm.
 pub fn slope_at(
     task: &Task<'_>,
     r: &Running,
     g: &mut [f64],
-    work: &mut Work,
+    model: &mut [f64],
+    columns: &mut [f64],
 ) -> Result<f64, Refusal>
-    requires { length g.old ≡ length task.now.places.now }
-    ensures { Sloped (job_in task.now) (point_of (length task.now.places.now) r.now) g.new result }
+    requires { (length task.now.places.now ≤ length g.old) × Roomy task.now.card.now.header model.old columns.old }
+    ensures { Sloped (job_in task.now) (point_of (length task.now.places.now) r.now) (take (length task.now.places.now) g.new) result
+        × (drop (length task.now.places.now) g.new ≡ drop (length task.now.places.now) g.old) }
 {
     let p = task.places.len();
-    gradient(task, &r.coordinates[..p], r.objective, g, work)?;
-    Ok(norm(g))
+    let slopes = &mut g[..p];
+    let xs = &r.coordinates[..p];
+    gradient(task, xs, r.objective, slopes, model, columns)?;
+    Ok(norm(slopes))
 }
 
 // The step from r along its gradient g, of norm z.
 fn descend(
-    task: &Task<'_>,
+    limited: &Limited<'_>,
     r: &Running,
     g: &[f64],
     z: f64,
-    work: &mut Work,
+    model: &mut [f64],
+    columns: &mut [f64],
 ) -> Result<Running, Refusal>
-    requires { Underway r.now × (length g.now ≡ length task.now.places.now) × Sloped (job_in task.now) (point_of (length task.now.places.now) r.now) g.now (Ok z) }
-    ensures { Led (job_in task.now) (length task.now.places.now) r.now result }
+    requires { Underway r.now × (length g.now ≡ length limited.now.task.places.now) × Sloped (job_in limited.now.task) (point_of (length limited.now.task.places.now) r.now) g.now (Ok z)
+        × Roomy limited.now.task.card.now.header model.old columns.old }
+    ensures { Led (job_in limited.now.task) (length limited.now.task.places.now) r.now result }
 {
+    let task = &limited.task;
     let c = task.config;
     let p = task.places.len();
     let n = 2 * (p as u64);
@@ -93,7 +94,8 @@ fn descend(
         return Ok(stopped(r, n, z, GstTermination::GradientTolerance));
     }
     let mut t = [0.0; 64];
-    let found = search(task, &r.coordinates[..p], g, r.objective, &mut t[..p], work)?;
+    let xs = &r.coordinates[..p];
+    let found = search(task, xs, g, r.objective, &mut t[..p], model, columns)?;
     match found {
         None => {
             let stalled = GstTermination::LineSearchStalled;
@@ -106,29 +108,39 @@ fn descend(
     }
 }
 
-// One gradient and its search.
-fn step(task: &Task<'_>, r: &Running, work: &mut Work) -> Result<Running, Refusal>
-    requires { Underway r.now }
-    ensures { Led (job_in task.now) (length task.now.places.now) r.now result }
+// One gradient and its search. The counts have room for a step more, which a step uses up: so `Underway` is no fact of every `Running`.
+fn step(
+    limited: &Limited<'_>,
+    r: &Running,
+    model: &mut [f64],
+    columns: &mut [f64],
+) -> Result<Running, Refusal>
+    requires { Underway r.now × Roomy limited.now.task.card.now.header model.old columns.old }
+    ensures { Led (job_in limited.now.task) (length limited.now.task.places.now) r.now result }
 {
-    let p = task.places.len();
-    let mut room = [0.0; 64];
-    let g = &mut room[..p];
-    let z = slope_at(task, r, g, work)?;
-    descend(task, r, g, z, work)
+    let task = &limited.task;
+    let mut g = [0.0; 64];
+    let z = slope_at(task, r, &mut g, model, columns)?;
+    descend(limited, r, &g[..task.places.len()], z, model, columns)
 }
 
 // Steps until the fit stops, or the limit is reached.
-pub fn run(task: &Task<'_>, start: Running, work: &mut Work) -> Result<Running, Refusal>
-    requires { (start.evaluations ≡ 1) × (start.steps ≡ 0) × (start.stop ≡ None) }
-    ensures { Ended (job_in task.now) (length task.now.places.now) start result }
+pub fn run(
+    limited: &Limited<'_>,
+    start: Running,
+    model: &mut [f64],
+    columns: &mut [f64],
+) -> Result<Running, Refusal>
+    requires { (start.evaluations ≡ 1) × (start.steps ≡ 0) × (start.stop ≡ None) × Roomy limited.now.task.card.now.header model.old columns.old }
+    ensures { Ended (job_in limited.now.task) (length limited.now.task.places.now) start result }
 {
     let mut r = start;
-    for i in 0..task.config.max_iterations {
+    // So many at most: nothing is gone over.
+    for i in 0..limited.task.config.max_iterations {
         if r.stop.is_some() {
             return Ok(r);
         }
-        r = step(task, &r, work)?;
+        r = step(limited, &r, model, columns)?;
     }
     Ok(r)
 }

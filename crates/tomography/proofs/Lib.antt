@@ -1,3 +1,3 @@
 pub mod Refusals
-pub mod Lengths
+pub mod Cards
 pub mod Fits

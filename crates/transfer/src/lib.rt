@@ -10,7 +10,7 @@ ghost use Rattle.transfer.specs.Apply.{applied_of, applied_numbers};
 ghost use Rattle.transfer.specs.Vectors.{vetted_of};
 
 use inversion::Singular;
-use matrix::{by_size, row};
+use matrix::by_size;
 use refusal::Refusal;
 use sizes::square;
 
@@ -19,8 +19,8 @@ fn vet_each(vectors: &[f64], tolerance: f64, p: usize) -> Result<(), Refusal>
     requires { (1 ≤ p) × (p ≤ 16) × (2 * (p * p) ≤ length vectors.now) }
     ensures { result ≡ vetted_of tolerance vectors.now p }
 {
-    for k in 0..2 * p {
-        pauli::vet(tolerance, &vectors[row(k, p)])?;
+    for v in vectors[..2 * (p * p)].chunks_exact(p) {
+        pauli::vet(tolerance, v)?;
     }
     Ok(())
 }

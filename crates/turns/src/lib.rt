@@ -9,6 +9,7 @@ ghost use Rattle.turns.specs.Steps.{row_turned, mirrored_one, mirrored, crossed}
 use complex::Complex;
 use magnitudes::Pivot;
 
+// Places p and q are below the size, which the contracts below ask: a ghost field that says so would refuse the turns that a caller makes of its own numbers.
 #[derive(Clone, Copy, Debug, PartialEq)]
 pub struct Turn {
     pub p: usize,
@@ -83,6 +84,7 @@ pub fn turn_columns(a: &mut [f64], r: usize, n: usize, t: Turn)
     requires { (length a.old ≡ 2 * (r * n)) × (t.p < n) × (t.q < n) }
     ensures { entries a.new ≡ spec.columns_turned r n t (entries a.old) }
 {
+    // By places, here and below: see crate entries.
     for i in 0..r {
         turn_row(a, n, t, i);
     }

@@ -1,19 +1,22 @@
+use Rattle.std.proofs.Common.{sym, ◌∙◌}
 use Rattle.complex.specs.Arithmetic.{min}
-use Rattle.numbers.proofs.Leaves.{is-nan, no_nan}
 use Rattle.complex.proofs.min_of.Goals as goal
 
-pub returns-then-x : goal.returns-then-x
+pub returns-then-is_nan : goal.returns-then-is_nan
 unfolding min
-returns-then-x c = simp (is-nan _ c.if-x.true)
+returns-then-is_nan c = simp (sym c.is_nan.ensures.value ∙ c.if-is_nan.true)
 
-pub returns-then-y : goal.returns-then-y
+pub returns-then-is_nan-2 : goal.returns-then-is_nan-2
 unfolding min
-returns-then-y c = simp (no_nan _ c.if-x.false, is-nan _ c.if-y.true)
+returns-then-is_nan-2 c =
+    simp (sym c.is_nan.ensures.value ∙ c.if-is_nan.false, sym c.is_nan-2.ensures.value ∙ c.if-is_nan-2.true)
 
 pub returns-then-y-x : goal.returns-then-y-x
 unfolding min
-returns-then-y-x c = simp (no_nan _ c.if-x.false, no_nan _ c.if-y.false, c.if-y-x.true)
+returns-then-y-x c =
+    simp (sym c.is_nan.ensures.value ∙ c.if-is_nan.false, sym c.is_nan-2.ensures.value ∙ c.if-is_nan-2.false, c.if-y-x.true)
 
 pub returns : goal.returns
 unfolding min
-returns c = simp (no_nan _ c.if-x.false, no_nan _ c.if-y.false, c.if-y-x.false)
+returns c =
+    simp (sym c.is_nan.ensures.value ∙ c.if-is_nan.false, sym c.is_nan-2.ensures.value ∙ c.if-is_nan-2.false, c.if-y-x.false)

@@ -1,6 +1,5 @@
 use Prim.Native.Nat.{◌*◌, ◌+◌}
-use native.Mathlib.Omega.{arith}
-use Rattle.lists.proofs.Folding.{fold-none, fold_more, fold_end}
+use Rattle.lists.proofs.Folding.{fold-none, fold_more}
 use Rattle.elimination.specs.Kept.{kept_row}
 use Rattle.elimination.proofs.Lent.{row-put}
 use borrow.Author.Rules.{rules}
@@ -14,6 +13,3 @@ loop-i-preserved c =
     let a = c.args in
     let l = c.loop-i in
     (search rules, fold_more _ _ _ _ _ l.invariant.1 (row-put l.i _ _ (2 * a.n + 2) (kept_row a.n a.k a.pivot.now l.i) l.work _ c.row.ensures c.keep_row.ensures))
-
-pub returns : goal.returns
-returns c = fold_end _ _ _ _ _ (omega arith) c.loop-i.invariant.1

@@ -1,4 +1,4 @@
-use mathlib.Core.Path.{refl}
+use mathlib.Core.Path.{refl, ◌∙◌}
 use native.Mathlib.Omega.{arith}
 use lib.ListN.{length}
 use Rattle.std.proofs.lemmas.Result.{err_from_is_err_and}
@@ -8,22 +8,22 @@ use Rattle.evaluation.proofs.Slopes.{slopes-none, slopes-more, slopes-stop, slop
 use Rattle.evaluation.proofs.gradient.Goals as goal
 
 pub loop-i-init : goal.loop-i-init
-loop-i-init c = slopes-none _ c.args.g.now
+loop-i-init c = (slopes-none _ c.args.g.now, refl, refl)
 
 pub returns-in_err-slope : goal.returns-in_err-slope
 unfolding gradient
 returns-in_err-slope c =
     let q = err_from_is_err_and c.from_residual.result c.from_residual.ensures.1 in
     let a = c.args in
-    rw (q.1, q.2) (slopes-stop (derivative (job_in a.t.now) a.xs.now a.o) c.loop-i.i (length a.t.now.places.now) c.loop-i.g _ _ c.loop-i.invariant c.in_err-slope.ensures refl (omega arith))
+    rw (q.1, q.2) (slopes-stop (derivative (job_in a.t.now) a.xs.now a.o) c.loop-i.i (length a.t.now.places.now) c.loop-i.g _ _ c.loop-i.invariant.0 c.in_err-slope.ensures refl (omega arith))
 
 pub loop-i-preserved : goal.loop-i-preserved
 loop-i-preserved c =
     let a = c.args in
-    slopes-more (derivative (job_in a.t.now) a.xs.now a.o) c.loop-i.i c.loop-i.g _ _ c.loop-i.invariant c.in_ok-slope.ensures refl (omega arith)
+    (slopes-more (derivative (job_in a.t.now) a.xs.now a.o) c.loop-i.i c.loop-i.g _ _ c.loop-i.invariant.0 c.in_ok-slope.ensures refl (omega arith), c.derivative.auto.model ∙ c.loop-i.invariant.1, c.derivative.auto.columns ∙ c.loop-i.invariant.2)
 
 pub returns : goal.returns
 unfolding gradient
 returns c =
     let a = c.args in
-    slopes-all (derivative (job_in a.t.now) a.xs.now a.o) c.loop-i.i (length a.t.now.places.now) c.loop-i.g c.loop-i.invariant (omega arith) (omega arith)
+    slopes-all (derivative (job_in a.t.now) a.xs.now a.o) c.loop-i.i (length a.t.now.places.now) c.loop-i.g c.loop-i.invariant.0 (omega arith) (omega arith)

@@ -14,21 +14,21 @@ use Rattle.fit.proofs.fit_from.Goals as goal
 
 pub returns-in_err-r : goal.returns-in_err-r
 returns-in_err-r c =
-    let t = c.args.t.now in
+    let t = c.args.limited.now.task in
     let d = c.args.d in
     let J = job_in t in
     let w = map (at (numbers_of t.card.now.bytes.now t.card.now.header)) t.places.now in
     let f = front-is (length t.places.now) c.copy_from_slice.new.self _ w (c.copy_from_slice.ensures.after ∙ t.anchored) (length-map _ t.places.now) in
-    let b = begins J d c.requires _ c.objective.result f (c.objective.ensures ∙ ap (λ (xs : List Float). objective_of J d.log_likelihood xs) (t.anchored ∙ sym f)) in
+    let b = begins J d c.requires.0 _ c.objective.result f (c.objective.ensures t.card.now.bytes.now t.card.now.header t.places.now t.anchored (ap length t.anchored ∙ length-map _ t.places.now) ∙ ap (λ (xs : List Float). objective_of J d.log_likelihood xs) (t.anchored ∙ sym f)) in
     let q = err_from_is_err_and c.from_residual.result c.from_residual.ensures.1 in
-    rw (q.1, q.2) (fit-ends J d c.requires _ _ b c.in_err-r.ensures)
+    rw (q.1, q.2) (fit-ends J d c.requires.0 _ _ b c.in_err-r.ensures)
 
 pub returns : goal.returns
 returns c =
-    let t = c.args.t.now in
+    let t = c.args.limited.now.task in
     let d = c.args.d in
     let J = job_in t in
     let w = map (at (numbers_of t.card.now.bytes.now t.card.now.header)) t.places.now in
     let f = front-is (length t.places.now) c.copy_from_slice.new.self _ w (c.copy_from_slice.ensures.after ∙ t.anchored) (length-map _ t.places.now) in
-    let b = begins J d c.requires _ c.objective.result f (c.objective.ensures ∙ ap (λ (xs : List Float). objective_of J d.log_likelihood xs) (t.anchored ∙ sym f)) in
-    c.finish.ensures ∙ fit-ends J d c.requires _ _ b c.in_ok-r.ensures.state
+    let b = begins J d c.requires.0 _ c.objective.result f (c.objective.ensures t.card.now.bytes.now t.card.now.header t.places.now t.anchored (ap length t.anchored ∙ length-map _ t.places.now) ∙ ap (λ (xs : List Float). objective_of J d.log_likelihood xs) (t.anchored ∙ sym f)) in
+    c.finish.ensures ∙ fit-ends J d c.requires.0 _ _ b c.in_ok-r.ensures.state

@@ -28,7 +28,7 @@ begin-requires c =
     let s = k.bytes.now in
     let e = front-again (places_of s k.header) (drop (length (places_of s k.header)) _) c.load_places.ensures (length-places s k.header) in
     let p = placed_by s k.header k.shaped c.requires.0 c.requires.1 c.requires.2 c.requires.3 _ e in
-    (omega (arith, c.requires.0), c.requires.2, p.inside, search rules, search rules, search rules)
+    (omega (arith, c.requires.0), c.requires.2, p.inside, search rules, c.requires.6)
 
 pub returns-in_err-d : goal.returns-in_err-d
 returns-in_err-d c =
@@ -46,8 +46,6 @@ invariant_of-task c =
     let e = front-again (places_of s k.header) (drop (length (places_of s k.header)) _) c.load_places.ensures (length-places s k.header) in
     record {
       placed = placed_by s k.header k.shaped c.requires.0 c.requires.1 c.requires.2 c.requires.3 _ e;
-      backtracks = rw c.config_of-config.ensures c.requires.4;
-      iterations = rw c.config_of-config.ensures c.requires.5;
       anchored = front-is k.header.coordinates c.begin.new.anchor _ _ c.begin.ensures.1 (length-map _ _ ∙ ap length e ∙ length-places s k.header);
     }
 

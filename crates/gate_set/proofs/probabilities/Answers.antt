@@ -1,17 +1,10 @@
-use Prim.Native.Nat.{ℕ}
-use mathlib.Core.Path.{◌≡◌, ap, ◌∙◌}
-use lib.ListN.{length, take}
-use lib.Seq.{length-take-le}
-use Rattle.gate_set.proofs.Columns.{run-measured}
+use Rattle.std.proofs.Common.{◌++◌, List, take, drop, ap, ◌∙◌, arith, Float}
+use lib.Seq.{take_at}
+use Rattle.gate_set.proofs.Columns.{length-probabilities-by}
 use Rattle.gate_set.proofs.probabilities.Goals as goal
-
-pub measure-requires : goal.measure-requires
-measure-requires c =
-    let k : length c.run.new.x ≡ c.args.d = c.run.auto.x ∙ (c.put_row.auto.row ∙ length-take-le _ _ c.requires.0) in
-    rw k (c.requires.0, c.requires.1, c.requires.2, c.requires.3)
 
 pub returns : goal.returns
 returns c =
     let a = c.args in
-    let k : length c.run.new.x ≡ a.d = c.run.auto.x ∙ (c.put_row.auto.row ∙ length-take-le _ _ c.requires.0) in
-    run-measured a.d a.e a.model.now a.columns.now a.sequence.now a.out.now _ _ _ (c.put_row.ensures ∙ ap (λ (n : ℕ). take n a.model.now) (length-take-le _ _ c.requires.0)) c.run.ensures k c.measure.ensures
+    ap (λ (l : List Float). l ++ drop a.e a.out.now)
+    (c.copy_from_slice.ensures.after ∙ (ap (take a.e) (c.probabilities_under.ensures 0 (omega arith)) ∙ take_at _ _ a.e (length-probabilities-by a.d a.e a.model.now a.columns.now a.sequence.now)))

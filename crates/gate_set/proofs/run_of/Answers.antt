@@ -1,29 +1,24 @@
-use native.Mathlib.Omega.{arith}
-use Rattle.lists.proofs.Folding.{fold-none, fold_end}
+use Rattle.std.proofs.Common.{sym, ◌∙◌, arith}
+use Rattle.lists.proofs.Folding.{fold-none, fold_end, fold_more}
 use Rattle.gate_set.specs.GateSet.{through}
-use Rattle.gate_set.proofs.Columns.{gate-lent, gate-more}
+use Rattle.gate_set.proofs.Turned.{turned_none, turned_more}
 use Rattle.gate_set.proofs.run_of.Goals as goal
 
 pub loop-g-init : goal.loop-g-init
-loop-g-init c = fold-none _ _
+loop-g-init g c = (c.told-xs ∙ sym c.requires.1, λ k h. fold-none _ _)
 
-pub row-requires : goal.row-requires
-row-requires c = omega (arith, c.requires.2 c.loop-g.g-index c.loop-g-test.true)
+pub loop-k-init : goal.loop-k-init
+loop-k-init g c = turned_none _ _ _
 
-pub slice_bounds-row_times-end : goal.slice_bounds-row_times-end
-slice_bounds-row_times-end c = omega (arith, c.requires.2 c.loop-g.g-index c.loop-g-test.true, c.row.ensures)
+pub pass-requires : goal.pass-requires
+pass-requires g c = (c.requires.0, c.requires.2 c.loop-k.k (omega arith) c.loop-g.g-index c.loop-g-test.true)
 
-pub row_times-requires : goal.row_times-requires
-row_times-requires c =
-    let a = c.args in
-    (c.requires.0, omega arith, gate-lent a.d a.columns.now a.sequence.now c.loop-g.g-index _ _ c.row.ensures c.requires.2 c.loop-g-test.true)
+pub loop-k-preserved : goal.loop-k-preserved
+loop-k-preserved g c = turned_more _ _ _ c.loop-k.k c.loop-k.xs _ (omega (arith, c.loop-k.invariant.long)) c.loop-k.invariant c.pass.ensures
 
 pub loop-g-preserved : goal.loop-g-preserved
-loop-g-preserved c =
-    let a = c.args in
-    let l = c.loop-g in
-    gate-more a.d a.columns.now a.sequence.now l.g-index _ _ a.x.now l.x _ c.row.ensures l.invariant c.row_times.ensures
+loop-g-preserved g c = (c.loop-k.invariant.long ∙ c.loop-g.invariant.0, λ k h. fold_more _ _ _ _ _ (c.loop-g.invariant.1 k h) (c.loop-k.invariant.done k (omega arith)))
 
 pub returns : goal.returns
 unfolding through
-returns c = fold_end _ _ _ _ _ (omega arith) c.loop-g.invariant
+returns g c = λ k h. fold_end _ _ _ _ _ (omega arith) (c.loop-g.invariant.1 k h)

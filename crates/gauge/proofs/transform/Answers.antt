@@ -1,26 +1,13 @@
-use Rattle.std.proofs.Common.{List, sym, ap, ◌∙◌, arith}
+use Rattle.std.proofs.Common.{List, sym, ap, ◌∙◌}
 use Rattle.std.proofs.lemmas.Result.{err_from_is_err_and}
 use lib.Ieee.{Float}
-use Rattle.sizes.proofs.Small.{square-most}
 use Rattle.lists.specs.Build.{over}
-use Rattle.lists.proofs.Parts.{front-again, front_length}
+use Rattle.lists.proofs.Parts.{front-again}
 use Rattle.card_parts.specs.Model.{transform_of}
 use Rattle.gauge.specs.Gauge.{inverted_of, inverse_in}
 use Rattle.gauge.proofs.Lengths.{length-transform}
 use Rattle.gauge.proofs.Gauges.{inverse-length, transform-refused, transform-good}
 use Rattle.gauge.proofs.transform.Goals as goal
-
-pub load_transform-requires : goal.load_transform-requires
-load_transform-requires c =
-    let h = c.args.card.now.header in
-    (c.requires.0, omega (arith, square-most h.dimension c.args.card.now.shaped.limits.dimension))
-
-pub invert_transform-requires : goal.invert_transform-requires
-invert_transform-requires c =
-    let m = c.square-m.ensures.0 in
-    let h = c.args.card.now.header in
-    let k = c.args.card.now.shaped.limits.dimension in
-    (k, front_length (transform_of c.args.card.now.bytes.now h) _ c.load_transform.ensures (length-transform _ _ ∙ sym m) ∙ m, omega (arith, square-most h.dimension k))
 
 pub returns-in_err-invert_transform : goal.returns-in_err-invert_transform
 returns-in_err-invert_transform c =

@@ -2,8 +2,7 @@ use mathlib.Core.Path.{ap, sym, ◌∙◌}
 use mathlib.Core.Bool.{false, true, not}
 use lib.Ieee.{of_bits}
 use Rattle.std.proofs.lemmas.Result.{err_from_is_err_and}
-use Rattle.inversion.proofs.Reductions.{none_found, one_found, all-zero, not_finite, all-reduced, no-inverse, places-within}
-use borrow.Author.Rules.{rules}
+use Rattle.inversion.proofs.Reductions.{none_found, one_found, all-zero, not_finite, all-reduced, no-inverse}
 use Rattle.inversion.proofs.invert_within.Goals as goal
 use Rattle.inversion.proofs.invert_within.Goals.{then-scale-via-then-scale, then-scale-via-else-scale+then-not-is_finite}
 
@@ -23,13 +22,6 @@ returns-in_err-reduce c =
     let a = c.args in
     let q = err_from_is_err_and c.from_residual.result c.from_residual.ensures.1 in
     rw q.1 (none_found a.n a.threshold a.a.now _ _ a.out.now (all-reduced _ a.threshold _ _ c.scale_of-scale.ensures false _ _ c.if-scale.false (ap not (sym c.is_finite.ensures ∙ c.if-not-is_finite.false)) c.in_err-reduce.ensures))
-
-pub right_halves-requires : goal.right_halves-requires
-unfolding of_bits
-right_halves-requires c =
-    let a = c.args in
-    let s = all-reduced _ a.threshold _ _ c.scale_of-scale.ensures true _ _ c.if-scale.false (ap not (sym c.is_finite.ensures ∙ c.if-not-is_finite.false)) c.in_ok-reduce.ensures in
-    (search rules, search rules, search rules, places-within _ _ _ _ s, search rules)
 
 pub returns : goal.returns
 unfolding of_bits

@@ -1,7 +1,7 @@
 use Prim.Native.Nat.{◌+◌}
 use native.Mathlib.Omega.{arith}
 use Rattle.std.proofs.lemmas.Result.{err_from_is_err_and}
-use Rattle.inversion.proofs.Reductions.{stands-first, stands-next, stands-last, ended-last}
+use Rattle.inversion.proofs.Reductions.{stands-first, stands-next, ended-last}
 use borrow.Author.Rules.{rules}
 use Rattle.inversion.proofs.reduce.Goals as goal
 
@@ -15,6 +15,3 @@ pub returns-in_err-reduce_column : goal.returns-in_err-reduce_column
 returns-in_err-reduce_column c =
     let q = err_from_is_err_and c.from_residual.result c.from_residual.ensures.1 in
     rw q.1 (ended-last _ _ _ (c.loop-k.k + 1) _ _ (omega arith) (stands-next _ _ _ _ _ _ _ (c.in_err-reduce_column.ensures _ c.loop-k.invariant.2)))
-
-pub returns : goal.returns
-returns c = stands-last _ _ _ _ _ _ _ (omega arith) c.loop-k.invariant.2

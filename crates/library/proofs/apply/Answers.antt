@@ -1,4 +1,3 @@
-use Rattle.std.proofs.lemmas.Result.{err_from_is_err_and}
 use Rattle.library.proofs.Entries.{apply-few, apply-numbers, entry-refused, entry-shown}
 use Rattle.library.specs.Entries.{apply_entry}
 use Rattle.outcome.proofs.Outcomes.{emitted}
@@ -13,24 +12,12 @@ use mathlib.Core.List.{List}
 use mathlib.Core.Path.{sym, ap, ◌∙◌}
 use Rattle.library.proofs.apply.Goals as goal
 
-pub apply_within-requires : goal.apply_within-requires
-apply_within-requires c = c.requires.1
-
 pub four_to-p-requires : goal.four_to-p-requires
 four_to-p-requires c = omega (arith, apply-few _ _ _ (sym c.in_ok-apply_within.was ∙ c.apply_within.ensures.0))
 
-pub emit-requires : goal.emit-requires
-emit-requires c =
-    let four-to = c.four_to-p.ensures in
-    let r = c.requires in
-    (omega (arith, four-to.1, r.1), omega (arith, four-to.1, r.0))
-
 pub returns-in_err-apply_within : goal.returns-in_err-apply_within
 unfolding apply_entry
-returns-in_err-apply_within c =
-    let q = err_from_is_err_and c.from_residual.result c.from_residual.ensures.1 in
-    rw (q.1, q.2)
-    (entry-refused _ Applied _ _ _ c.args.res.now _ c.apply_within.ensures.0 _ c.in_err-apply_within.was)
+returns-in_err-apply_within c = entry-refused Applied _ _ c.apply_within.ensures.0 c.from_residual.ensures.1 c.in_err-apply_within.was
 
 pub returns : goal.returns
 unfolding apply_entry
@@ -41,4 +28,4 @@ returns c =
     let a = c.args.values.now in
     let x = c.args.input.now in
     let f = apply-numbers n a x (sym c.in_ok-apply_within.was ∙ apply-within.0) in
-    entry-shown _ Applied _ _ _ _ _ apply-within.0 _ four-to.0 c.in_ok-apply_within.was (emitted (mat_vec_of (4 ^ n) a x) _ _ _ _ _ _ (length-mat-vec _ _ _) four-to.0 (apply-within.1 ∙ ap (λ (y : List Float). over y c.args.work.now) (sym f)) c.emit.ensures)
+    entry-shown Applied _ _ apply-within.0 four-to.0 c.in_ok-apply_within.was (emitted (mat_vec_of (4 ^ n) a x) _ _ _ _ _ _ (length-mat-vec _ _ _) four-to.0 (apply-within.1 ∙ ap (λ (y : List Float). over y c.args.work.now) (sym f)) c.emit.ensures)

@@ -1,4 +1,3 @@
-use Rattle.std.proofs.lemmas.Result.{err_from_is_err_and}
 use Rattle.choi.proofs.Places.{parts-most}
 use Rattle.library.proofs.Entries.{choi-few, choi-numbers, entry-refused, entry-shown}
 use Rattle.library.specs.Entries.{choi_entry}
@@ -14,9 +13,6 @@ use mathlib.Core.List.{List}
 use mathlib.Core.Path.{sym, ap, ap₂, ◌∙◌}
 use Rattle.library.proofs.choi_matrix.Goals as goal
 
-pub choi_within-requires : goal.choi_within-requires
-choi_within-requires c = c.requires.1
-
 pub four_to-p-requires : goal.four_to-p-requires
 four_to-p-requires c = omega (arith, choi-few _ _ (sym c.in_ok-choi_within.was ∙ c.choi_within.ensures.0))
 
@@ -30,10 +26,7 @@ emit-requires c =
 
 pub returns-in_err-choi_within : goal.returns-in_err-choi_within
 unfolding choi_entry
-returns-in_err-choi_within c =
-    let q = err_from_is_err_and c.from_residual.result c.from_residual.ensures.1 in
-    rw (q.1, q.2)
-    (entry-refused _ Choi _ _ _ c.args.res.now _ c.choi_within.ensures.0 _ c.in_err-choi_within.was)
+returns-in_err-choi_within c = entry-refused Choi _ _ c.choi_within.ensures.0 c.from_residual.ensures.1 c.in_err-choi_within.was
 
 pub returns : goal.returns
 unfolding choi_entry
@@ -43,4 +36,4 @@ returns c =
     let four-to = c.four_to-p.ensures in
     let f = choi-numbers a.n a.values.now (sym c.in_ok-choi_within.was ∙ choi-within.0) in
     let q = c.square.ensures.0 ∙ ap₂ ◌*◌ four-to.0 four-to.0 in
-    entry-shown _ Choi _ _ _ _ _ choi-within.0 _ four-to.0 c.in_ok-choi_within.was (emitted (choi_of a.n a.values.now) _ _ _ _ _ _ (length-choi _ _) (ap (λ (m : ℕ). 2 * m) q) (choi-within.1 ∙ ap (λ (y : List Float). over y a.work.now) (sym f)) c.emit.ensures)
+    entry-shown Choi _ _ choi-within.0 four-to.0 c.in_ok-choi_within.was (emitted (choi_of a.n a.values.now) _ _ _ _ _ _ (length-choi _ _) (ap (λ (m : ℕ). 2 * m) q) (choi-within.1 ∙ ap (λ (y : List Float). over y a.work.now) (sym f)) c.emit.ensures)

@@ -1,4 +1,3 @@
-use Rattle.std.proofs.lemmas.Result.{err_from_is_err_and}
 use mathlib.Core.Path.{refl, sym, ◌∙◌}
 use native.Mathlib.Nat.{le_of_eq}
 use native.Mathlib.Omega.{arith}
@@ -25,13 +24,10 @@ emit-requires c =
 
 pub returns-in_err-check : goal.returns-in_err-check
 unfolding probabilities_entry
-returns-in_err-check c =
-    let q = err_from_is_err_and c.from_residual.result c.from_residual.ensures.1 in
-    rw (q.1, q.2)
-    (entry-refused _ Probabilities _ _ _ c.args.res.now _ c.check.ensures _ c.in_err-check.was)
+returns-in_err-check c = entry-refused Probabilities _ _ c.check.ensures c.from_residual.ensures.1 c.in_err-check.was
 
 pub returns : goal.returns
 unfolding probabilities_entry
 returns c =
     let s = c.args in
-    entry-shown _ Probabilities _ _ _ _ _ c.check.ensures _ refl c.in_ok-check.was (emitted (probabilities_of s.d s.effects s.numbers.now s.sequence.now) _ _ _ _ _ _ (length-probabilities s.d s.effects s.numbers.now s.sequence.now) refl c.probabilities.ensures.0 c.emit.ensures)
+    entry-shown Probabilities _ _ c.check.ensures refl c.in_ok-check.was (emitted (probabilities_of s.d s.effects s.numbers.now s.sequence.now) _ _ _ _ _ _ (length-probabilities s.d s.effects s.numbers.now s.sequence.now) refl c.probabilities.ensures.0 c.emit.ensures)

@@ -1,4 +1,3 @@
-use Rattle.std.proofs.lemmas.Result.{err_from_is_err_and}
 use Rattle.library.proofs.Entries.{setting-in, entry-refused, entry-shown}
 use Rattle.library.specs.Entries.{setting_entry}
 use Rattle.outcome.specs.declared.Answer.TheVariants.{Setting}
@@ -17,12 +16,9 @@ setting-requires c =
 
 pub returns-in_err-check_setting : goal.returns-in_err-check_setting
 unfolding setting_entry
-returns-in_err-check_setting c =
-    let q = err_from_is_err_and c.from_residual.result c.from_residual.ensures.1 in
-    rw (q.1, q.2)
-    (entry-refused _ Setting _ _ _ c.args.res.now _ c.check_setting.ensures _ c.in_err-check_setting.was)
+returns-in_err-check_setting c = entry-refused Setting _ _ c.check_setting.ensures c.from_residual.ensures.1 c.in_err-check_setting.was
 
 pub returns : goal.returns
 unfolding setting_entry
 returns c =
-    entry-shown _ Setting _ _ _ _ _ c.check_setting.ensures _ refl c.in_ok-check_setting.was (over-front (setting_of c.args.n c.args.index) c.args.res.now (length-setting _ _) c.setting.ensures)
+    entry-shown Setting _ _ c.check_setting.ensures refl c.in_ok-check_setting.was (over-front (setting_of c.args.n c.args.index) c.args.res.now (length-setting _ _) c.setting.ensures)

@@ -18,7 +18,7 @@ returns-in-Some c =
 
 pub returns-in-None : goal.returns-in-None
 unfolding of_bits
-returns-in-None c = of-infinity _ _ _ (infinite _ (subst T (sym c.well_formed.1.1.0.1) tt) c.if-x.true c.in-None.ensures)
+returns-in-None c = of-infinity _ _ _ (infinite _ (subst T (sym c.well_formed.1.1.0.1) tt) c.if-x.true c.in-None.ensures.0)
 
 pub returns : goal.returns
 unfolding of_bits div

@@ -6,5 +6,5 @@ use Rattle.entries.specs.Entries.{entries, nowhere}
 use Rattle.magnitudes.specs.Notes.{widened}
 use Rattle.magnitudes.proofs.scale.Given as goal
 
-abbrev pub invariant-loop-k : goal.invariant-loop-k
-invariant-loop-k l = l.s ≡ fold l.k (λ j. widened (get_or (entries l.a) j nowhere)) zero_f
+abbrev pub invariant-loop-re : goal.invariant-loop-re
+invariant-loop-re l = l.s ≡ fold l.re-index (λ j. widened (get_or (entries l.a) j nowhere)) zero_f

@@ -1,5 +1,5 @@
-use Rattle.std.proofs.Common.{ℕ, ◌*◌, refl, sym, ap, ◌∙◌, arith, rules}
-use Rattle.lists.proofs.Joined.{written_none, written-more, written-end}
+use Rattle.std.proofs.Common.{ℕ, ◌*◌, refl, sym, ap, ◌∙◌, rules}
+use Rattle.lists.proofs.Joined.{written_none, written-more}
 use Rattle.lists.proofs.Parts.{over-front}
 use Rattle.card_parts.specs.Model.{gate_of}
 use Rattle.model_words.proofs.Sizes.{length-gate-numbers, length-gates-numbers}
@@ -14,6 +14,3 @@ loop-g-preserved c =
     let l = c.loop-g in
     let f = gate_of m.bytes.now m.header in
     (search rules, written-more f _ l.g _ _ l.out _ _ (length-gates-numbers m.bytes.now m.header l.g ∙ ap (λ (m : ℕ). l.g * m) (sym c.square-m.ensures.0)) refl l.invariant.1 refl (over-front (f l.g) _ (length-gate-numbers m.bytes.now m.header l.g) c.load_gate.ensures))
-
-pub returns : goal.returns
-returns c = written-end _ _ _ _ _ (omega arith) c.loop-g.invariant.1

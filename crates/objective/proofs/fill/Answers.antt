@@ -15,5 +15,5 @@ loop-i-preserved c = fold_more _ _ _ _ _ c.loop-i.invariant refl
 pub returns : goal.returns
 returns c =
     let a = c.args in
-    let t = a.t.now in
-    put_all t.places.now a.xs.now (numbers_of t.card.now.bytes.now t.card.now.header) a.model.now _ _ _ (omega arith) c.requires.0 (length-model _ _ ∙ sym c.requires.1) c.load_model.ensures c.loop-i.invariant
+    let k = a.card.now in
+    put_all a.places.now a.xs.now (numbers_of k.bytes.now k.header) a.model.now _ _ _ (omega arith) c.requires.1 (length-model _ _ ∙ sym c.requires.2) c.load.ensures c.loop-i.invariant

@@ -5,4 +5,4 @@ use Rattle.parameters.specs.Parameters.{parameter_verdict}
 use Rattle.parameters.proofs.check_parameters.Given as goal
 
 abbrev pub invariant-loop-i : goal.invariant-loop-i
-invariant-loop-i l = tested (parameter_verdict l.card l.h) l.i ≡ good
+invariant-loop-i l = tested (parameter_verdict l.card.bytes.now l.card.header) l.i ≡ good

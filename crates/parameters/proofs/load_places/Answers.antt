@@ -1,5 +1,5 @@
 use Prim.Native.Nat.{ℕ}
-use mathlib.Core.Path.{◌≡◌, sym, ap, ◌∙◌}
+use mathlib.Core.Path.{◌≡◌, sym, ap, ap₂, ◌∙◌}
 use mathlib.Core.List.{List, ◌++◌}
 use native.Mathlib.Omega.{arith}
 use lib.ListN.{length, take, drop}
@@ -16,18 +16,16 @@ pub loop-i-init : goal.loop-i-init
 loop-i-init c = fill_none _ _
 
 pub place_of-requires : goal.place_of-requires
-place_of-requires c =
-    let f = fields _ _ _ c.coordinate_in.ensures in
-    (c.requires.0.limits, f.0, f.1, f.2)
+place_of-requires c = fields _ _ _ c.coordinate_in.ensures
 
 pub loop-i-preserved : goal.loop-i-preserved
-loop-i-preserved c = fill_more _ _ _ _ _ (omega arith) c.loop-i.invariant (c.place_of.ensures ∙ ap (place_of c.args.h) c.coordinate_in.ensures)
+loop-i-preserved c = fill_more _ _ _ _ _ (omega arith) c.loop-i.invariant (c.place_of.ensures ∙ ap₂ place_of c.layout.ensures c.coordinate_in.ensures)
 
 pub returns : goal.returns
 unfolding places_of
 returns c =
     let a = c.args in
-    let k : length (take a.h.coordinates a.out.now) ≡ a.h.coordinates = length-take-le _ _ (search rules) in
-    ap (λ (l : List ℕ). l ++ drop a.h.coordinates a.out.now)
-    (fill-all _ _ _ _ (omega arith) c.loop-i.invariant ∙ ap (λ (m : ℕ). build m (λ j. place_of a.h (coordinate_in a.card.now a.h j))) k)
+    let k : length (take a.card.now.header.coordinates a.out.now) ≡ a.card.now.header.coordinates = length-take-le _ _ (search rules) in
+    ap (λ (l : List ℕ). l ++ drop a.card.now.header.coordinates a.out.now)
+    (fill-all _ _ _ _ (omega arith) c.loop-i.invariant ∙ ap (λ (m : ℕ). build m (λ j. place_of a.card.now.header (coordinate_in a.card.now.bytes.now a.card.now.header j))) k)
     ∙ sym (over-build _ _ _)

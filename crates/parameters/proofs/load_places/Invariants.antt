@@ -4,4 +4,4 @@ use Rattle.parameters.specs.Parameters.{place_of}
 use Rattle.parameters.proofs.load_places.Given as goal
 
 abbrev pub invariant-loop-i : goal.invariant-loop-i
-invariant-loop-i l = Filled (λ j. place_of l.h (coordinate_in l.card l.h j)) l.initial.place-items l.i l.place-items
+invariant-loop-i l = Filled (λ j. place_of l.card.header (coordinate_in l.card.bytes.now l.card.header j)) l.initial.place-items l.i l.place-items

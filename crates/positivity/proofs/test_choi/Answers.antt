@@ -1,7 +1,6 @@
 use mathlib.Core.Path.{refl, sym}
-use Rattle.std.proofs.lemmas.Result.{err_from_is_err_and}
 use Rattle.choi.proofs.Places.{parts-most}
-use Rattle.positivity.proofs.Found.{rows_in, choi-fits, choi-length, choi-front, choi-refused, choi-good}
+use Rattle.positivity.proofs.Found.{rows_in, choi-fits, choi-length, choi-front, choi-good}
 use Rattle.positivity.proofs.test_choi.Goals as goal
 
 pub normalized_choi-requires : goal.normalized_choi-requires
@@ -23,11 +22,6 @@ test_matrix-requires c =
     let k = c.four_to-p.ensures.0 in
     let r = rows_in _ _ c.requires.1 k in
     (choi-length _ _ _ choi.0 c.in_ok-normalized_choi.was _ _ choi.1 _ _ k refl, r.0, r.1)
-
-pub returns-in_err-normalized_choi : goal.returns-in_err-normalized_choi
-returns-in_err-normalized_choi c =
-    let q = err_from_is_err_and c.from_residual.result c.from_residual.ensures.1 in
-    rw (q.1, q.2) (choi-refused _ _ _ c.normalized_choi.ensures.0 _ _ _ c.in_err-normalized_choi.was)
 
 pub returns : goal.returns
 returns c =

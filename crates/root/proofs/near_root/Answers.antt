@@ -1,5 +1,5 @@
 use native.Mathlib.Omega.{arith}
-use Rattle.root.proofs.Squares.{found-by, not_last}
+use Rattle.root.proofs.Squares.{found-by}
 use Rattle.root.proofs.near_root.Goals as goal
 
 pub returns-then-middle-m : goal.returns-then-middle-m
@@ -9,10 +9,6 @@ returns-then-middle-m c =
 pub returns-then-middle-m-2 : goal.returns-then-middle-m-2
 returns-then-middle-m-2 c =
     found-by _ _ _ _ _ c.requires.0 c.requires.1 c.middle-then-m-middle-2.ensures c.middle-then-m-middle.ensures c.if-middle-m-2.true c.if-middle-m.false (omega arith)
-
-pub middle-requires-2 : goal.middle-requires-2
-middle-requires-2 c =
-    not_last _ _ _ c.requires.1 c.requires.3 c.middle.ensures c.if-m-middle.false
 
 pub returns-then-m-middle-2 : goal.returns-then-m-middle-2
 returns-then-m-middle-2 c =

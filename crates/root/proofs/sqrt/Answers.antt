@@ -19,7 +19,7 @@ returns-in-Some c =
 
 pub returns-in-None : goal.returns-in-None
 unfolding of_bits
-returns-in-None c = of-infinity _ (infinite _ (subst T (sym c.well_formed.0.1) tt) c.if-x.true (c.in-None.ensures))
+returns-in-None c = of-infinity _ (infinite _ (subst T (sym c.well_formed.0.1) tt) c.if-x.true c.in-None.ensures.0)
 
 pub returns-then-x-2 : goal.returns-then-x-2
 unfolding of_bits

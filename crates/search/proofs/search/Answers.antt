@@ -12,7 +12,7 @@ pub loop-k-init : goal.loop-k-init
 loop-k-init c =
     let a = c.args in
     let J = job_in a.task.now in
-    (refl, length-first J, search-none J a.xs.now a.g.now a.o)
+    (refl, length-first J, search-none J a.xs.now a.g.now a.o, refl, refl)
 
 pub returns-in_err-v : goal.returns-in_err-v
 returns-in_err-v c =
@@ -44,6 +44,8 @@ loop-k-preserved c =
         | in-Some+else-v-o w ↦ search-on J a.xs.now a.g.now a.o l.k _ _ l.invariant.2 t c.in_ok-v.ensures _ (ap (λ (x : Option Float). Ok x) w.in-Some.is) w.if-v-o.false
         | in_default w ↦ search-passed J a.xs.now a.g.now a.o l.k _ _ l.invariant.2 t c.in_ok-v.ensures (ap (λ (x : Option Float). Ok x) w.in_default.is)
       ],
+      c.evaluate.auto.model ∙ l.invariant.3,
+      c.evaluate.auto.columns ∙ l.invariant.4,
     )
 
 pub returns : goal.returns

@@ -1,9 +1,7 @@
-use Rattle.std.proofs.lemmas.Result.{err_from_is_err_and}
-use Rattle.sheets.proofs.Shown.{process-refused, process-shown}
+use Rattle.sheets.proofs.Shown.{process_shown}
 use Rattle.sizes.proofs.Small.{four-some, four-most}
 use Rattle.lists.specs.Build.{over}
 use Rattle.sheets.specs.Sheets.{transfer_numbers}
-use Rattle.outcome.proofs.Outcomes.{stays}
 use native.Mathlib.Omega.{arith}
 use Prim.Native.Nat.{ℕ}
 use mathlib.Core.Path.{ap, ◌∙◌}
@@ -14,16 +12,8 @@ invert_process-requires c =
     let k = c.four_to-p.ensures.0 in
     (omega (arith, four-some c.args.n, k), omega (arith, four-most c.args.n c.requires.0, k), rw k c.requires.1, c.requires.3)
 
-pub returns-in_err-invert_process : goal.returns-in_err-invert_process
-returns-in_err-invert_process c =
-    let q = err_from_is_err_and c.from_residual.result c.from_residual.ensures.1 in
-    rw (q.1, q.2)
-    (let four-to = c.four_to-p.ensures in
-    let invert-process = c.invert_process.ensures in
-    (stays c.args.res.now (process-refused _ c.args.n _ four-to.0 _ invert-process.0 _ c.in_err-invert_process.was), invert-process.1 ∙ ap (λ (p : ℕ). over (transfer_numbers c.args.card.now p) c.args.work.now) four-to.0))
-
 pub returns : goal.returns
 returns c =
     let four-to = c.four_to-p.ensures in
     let invert-process = c.invert_process.ensures in
-    (process-shown _ c.args.n _ four-to.0 _ invert-process.0 _ _ _ _ _ c.in_ok-invert_process.was c.square.ensures.0 invert-process.1 c.emit.ensures, invert-process.1 ∙ ap (λ (p : ℕ). over (transfer_numbers c.args.card.now p) c.args.work.now) four-to.0)
+    (process_shown _ c.args.n _ four-to.0 _ invert-process.0 _ _ _ _ _ c.in_ok-invert_process.was c.square.ensures.0 invert-process.1 c.emit.ensures, invert-process.1 ∙ ap (λ (p : ℕ). over (transfer_numbers c.args.card.now p) c.args.work.now) four-to.0)

@@ -1,5 +1,5 @@
 use Rattle.std.proofs.lemmas.Result.{err_from_is_err_and}
-use Rattle.sheets.proofs.Shown.{physical-refused, physical-shown}
+use Rattle.sheets.proofs.Shown.{physical_refused, physical_shown}
 use Rattle.sizes.proofs.Small.{four-some, four-most}
 use native.Mathlib.Omega.{arith}
 use Rattle.sheets.proofs.test_transfer.Goals as goal
@@ -19,7 +19,7 @@ pub returns-in_err-completely_positive : goal.returns-in_err-completely_positive
 returns-in_err-completely_positive c =
     let q = err_from_is_err_and c.from_residual.result c.from_residual.ensures.1 in
     rw (q.1, q.2)
-    (physical-refused _ _ _ _ _ c.is_completely_positive.ensures _ c.in_err-completely_positive.was)
+    (physical_refused _ _ _ _ _ c.is_completely_positive.ensures _ c.in_err-completely_positive.was)
 
 pub returns : goal.returns
-returns c = physical-shown _ _ _ _ _ c.is_completely_positive.ensures _ _ _ _ c.requires.2 c.in_ok-completely_positive.was c.is_trace_preserving.ensures c.is_unital.ensures
+returns c = physical_shown _ _ _ _ _ c.is_completely_positive.ensures _ _ _ _ c.requires.2 c.in_ok-completely_positive.was c.is_trace_preserving.ensures c.is_unital.ensures

@@ -3,7 +3,7 @@ use native.Mathlib.Omega.{arith}
 use lib.Dec.{T}
 use Prim.Native.Nat.{◌%◌}
 use lib.Ieee.{binary64, to_bits}
-use Rattle.significand.proofs.Pattern.{no-units, no_nan, Shifted, is-shifted, of_zero, some, of_low, of-high}
+use Rattle.significand.proofs.Pattern.{none, no-units, no_nan, Shifted, is-shifted, of_zero, some, of_low, of-high}
 use Rattle.significand.proofs.parts_of.Goals as goal
 use Rattle.significand.proofs.parts_of.Goals.{Then-field-eq0}
 
@@ -11,25 +11,16 @@ shifted : (c : Then-field-eq0) → Shifted (to_bits binary64 c.args.x % 0x8000_0
 shifted c = is-shifted _ (subst T (sym c.well_formed.0.1) tt) (sym c.is_finite.ensures ∙ c.if-not-is_finite.false) c.if-w-eq0.false c.if-field-eq0.true
 
 pub returns-then-not-is_finite : goal.returns-then-not-is_finite
-returns-then-not-is_finite c = no-units _ (sym c.is_finite.ensures ∙ c.if-not-is_finite.true)
+returns-then-not-is_finite c = none _ (no-units _ (sym c.is_finite.ensures ∙ c.if-not-is_finite.true))
 
 pub float_to_bits-w : goal.float_to_bits-w
 float_to_bits-w c = no_nan _ (sym c.is_finite.ensures ∙ c.if-not-is_finite.false)
 
 pub returns-then-w-eq0 : goal.returns-then-w-eq0
-returns-then-w-eq0 c = of_zero _ (subst T (sym c.well_formed.0.1) tt) (sym c.is_finite.ensures ∙ c.if-not-is_finite.false) c.if-w-eq0.true
+returns-then-w-eq0 c = none _ (of_zero _ (subst T (sym c.well_formed.0.1) tt) (sym c.is_finite.ensures ∙ c.if-not-is_finite.false) c.if-w-eq0.true)
 
 pub overflow_sub-s : goal.overflow_sub-s
 overflow_sub-s c = omega (arith, (shifted (goal.at.overflow_sub-s c).Then-field-eq0).least)
-
-pub overflow_cast-s : goal.overflow_cast-s
-overflow_cast-s c = record { fits = omega (arith, (shifted (goal.at.overflow_cast-s c).Then-field-eq0).most) }
-
-pub overflow_shl-result : goal.overflow_shl-result
-overflow_shl-result c = omega (arith, (shifted (goal.at.overflow_shl-result c).Then-field-eq0).most)
-
-pub overflow_sub-result : goal.overflow_sub-result
-overflow_sub-result c = omega (arith, (shifted (goal.at.overflow_sub-result c).Then-field-eq0).most)
 
 pub returns-then-field-eq0 : goal.returns-then-field-eq0
 returns-then-field-eq0 c =

@@ -8,22 +8,22 @@ use Rattle.steps.proofs.descend.Goals as goal
 
 pub returns-then-z-c : goal.returns-then-z-c
 returns-then-z-c c =
-    let t = c.args.task.now in
-    level (job_in t) c.args.r.now c.args.g.now _ c.requires.2 t.placed.few t.backtracks _ c.if-z-c.true c.stopped.ensures
+    let t = c.args.limited.now.task in
+    level (job_in t) c.args.r.now c.args.g.now _ c.requires.2 t.placed.few c.args.limited.now.backtracks _ c.if-z-c.true c.stopped.ensures
 
 pub returns-in_err-found : goal.returns-in_err-found
 returns-in_err-found c =
-    let t = c.args.task.now in
+    let t = c.args.limited.now.task in
     let q = err_from_is_err_and c.from_residual.result c.from_residual.ensures.1 in
-    rw (q.1, q.2) (lost (job_in t) c.args.r.now c.args.g.now _ c.requires.2 t.placed.few t.backtracks c.if-z-c.false _ c.in_err-found.ensures.0 _ refl)
+    rw (q.1, q.2) (lost (job_in t) c.args.r.now c.args.g.now _ c.requires.2 t.placed.few c.args.limited.now.backtracks c.if-z-c.false _ c.in_err-found.ensures.0 _ refl)
 
 pub returns-in-None : goal.returns-in-None
 returns-in-None c =
-    let t = c.args.task.now in
-    stalled (job_in t) c.args.r.now c.args.g.now _ c.requires.2 t.placed.few t.backtracks c.if-z-c.false _ c.in_ok-found.ensures.0 _ (ap (λ (x : Option Accepted). Ok x) c.in-None.is) c.stopped-in-None.ensures
+    let t = c.args.limited.now.task in
+    stalled (job_in t) c.args.r.now c.args.g.now _ c.requires.2 t.placed.few c.args.limited.now.backtracks c.if-z-c.false _ c.in_ok-found.ensures.0 _ (ap (λ (x : Option Accepted). Ok x) c.in-None.is) c.stopped-in-None.ensures
 
 pub returns-in-Some : goal.returns-in-Some
 returns-in-Some c =
-    let t = c.args.task.now in
+    let t = c.args.limited.now.task in
     let a = c.in-Some.a in
-    accepted (job_in t) c.args.r.now c.args.g.now _ c.requires.2 t.placed.few t.backtracks c.if-z-c.false _ c.in_ok-found.ensures.0 _ c.search.new.t _ a.trial a.objective c.in_ok-found.ensures.1 (ap (λ (x : Option Accepted). Ok x) c.in-Some.is) c.moved.ensures
+    accepted (job_in t) c.args.r.now c.args.g.now _ c.requires.2 t.placed.few c.args.limited.now.backtracks c.if-z-c.false _ c.in_ok-found.ensures.0 _ c.search.new.t _ a.trial a.objective c.in_ok-found.ensures.1 (ap (λ (x : Option Accepted). Ok x) c.in-Some.is) c.moved.ensures

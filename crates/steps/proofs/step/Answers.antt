@@ -6,4 +6,4 @@ use Rattle.steps.proofs.step.Goals as goal
 pub returns-in_err-z : goal.returns-in_err-z
 returns-in_err-z c =
     let q = err_from_is_err_and c.from_residual.result c.from_residual.ensures.1 in
-    rw (q.1, q.2) (unsloped (job_in c.args.task.now) c.args.r.now _ c.in_err-z.ensures)
+    rw (q.1, q.2) (unsloped (job_in c.args.limited.now.task) c.args.r.now _ c.in_err-z.ensures.0)

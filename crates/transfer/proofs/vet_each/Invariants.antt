@@ -1,9 +1,13 @@
-use Rattle.std.proofs.Common.{◌≡◌}
+use Rattle.std.proofs.Common.{◌≡◌, ◌*◌, ◌≤◌, length}
+use Rattle.std.specs.Slice.Iter.{chunks_exact_rest, chunks_exact_size}
 use Rattle.refusal.specs.Verdicts.{good}
 use Rattle.refusal.proofs.Verdicts.{tested}
 use Rattle.pauli.specs.Density.{vet_of}
 use Rattle.transfer.specs.Vectors.{vector_of}
+use Rattle.transfer.proofs.Vectors.{from}
 use Rattle.transfer.proofs.vet_each.Given as goal
 
-abbrev pub invariant-loop-k : goal.invariant-loop-k
-invariant-loop-k l = tested (λ k. vet_of l.tolerance (vector_of l.vectors l.p k)) l.k ≡ good
+abbrev pub invariant-loop-v : goal.invariant-loop-v
+invariant-loop-v l =
+    (tested (λ k. vet_of l.tolerance (vector_of l.vectors l.p k)) (length l.yielded) ≡ good) × (length l.yielded ≤ 2 * l.p)
+    × (chunks_exact_rest l.v-iterator ≡ from l.vectors l.p (length l.yielded)) × (chunks_exact_size l.v-iterator ≡ l.p)

@@ -1,16 +1,11 @@
-use Rattle.std.proofs.Common.{List, ◌++◌, drop, ap, ◌∙◌, arith}
+use Rattle.std.proofs.Common.{List, ◌++◌, drop, ap, ◌∙◌}
 use lib.Ieee.{Float}
-use Rattle.lists.proofs.Parts.{front-again, front_length, over-front}
+use Rattle.lists.proofs.Parts.{front-again, over-front}
 use Rattle.matrix.specs.Product.{row_mat_of}
 use Rattle.card_parts.specs.Model.{effect_of}
 use Rattle.gauge.specs.Gauge.{new_effect}
 use Rattle.gauge.proofs.Lengths.{length-effect, effect-in-length}
 use Rattle.gauge.proofs.Gauge.effect.Goals as goal
-
-pub row_mat-requires : goal.row_mat-requires
-row_mat-requires c =
-    let t = c.args.self.now in
-    (t.card.shaped.limits.dimension, omega (arith, front_length (effect_of t.card.bytes.now t.card.header c.args.k) _ c.load_effect.ensures (length-effect _ _ _)), t.whole_inverse, c.requires.1)
 
 pub returns : goal.returns
 unfolding new_effect

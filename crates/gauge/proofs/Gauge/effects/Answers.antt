@@ -1,5 +1,5 @@
-use Rattle.std.proofs.Common.{refl, arith, rules}
-use Rattle.lists.proofs.Joined.{written_none, written-more, written-end}
+use Rattle.std.proofs.Common.{refl, rules}
+use Rattle.lists.proofs.Joined.{written_none, written-more}
 use Rattle.gauge.specs.Gauge.{new_effect}
 use Rattle.gauge.proofs.Lengths.{effects-length}
 use Rattle.gauge.proofs.Gauge.effects.Goals as goal
@@ -12,6 +12,3 @@ loop-k-preserved c =
     let l = c.loop-k in
     let t = c.args.self.now in
     (search rules, written-more (new_effect t.inverse.now t.card.bytes.now t.card.header) _ l.k _ _ l.out _ _ (effects-length _ _ t.inverse.now _ _) refl l.invariant.1 refl c.effect.ensures)
-
-pub returns : goal.returns
-returns c = written-end _ _ _ _ _ (omega arith) c.loop-k.invariant.1

@@ -1,7 +1,7 @@
-use Rattle.std.proofs.Common.{List, ◌++◌, ◌*◌, drop, sym, ap, ap₂, ◌∙◌, arith}
+use Rattle.std.proofs.Common.{List, ◌++◌, ◌*◌, drop, sym, ap, ap₂, ◌∙◌}
 use lib.Ieee.{Float}
 use lib.Seq.{drop_at}
-use Rattle.lists.proofs.Parts.{front-again, front_fits, front_length, over-front}
+use Rattle.lists.proofs.Parts.{front-again, over-front}
 use Rattle.matrix.specs.Product.{mat_mul_of}
 use Rattle.matrix.proofs.Sums.{length-mat-mul}
 use Rattle.card_parts.specs.Model.{gate_of}
@@ -9,18 +9,6 @@ use Rattle.model_words.proofs.Sizes.{length-gate-numbers}
 use Rattle.gauge.specs.Gauge.{new_gate}
 use Rattle.gauge.proofs.Lengths.{gate-in-length}
 use Rattle.gauge.proofs.Gauge.gate.Goals as goal
-
-pub mat_mul-requires : goal.mat_mul-requires
-mat_mul-requires c =
-    let t = c.args.self.now in
-    let m = c.square-m.ensures.0 in
-    (t.card.shaped.limits.dimension, t.whole, omega (arith, front_length (gate_of t.card.bytes.now t.card.header c.args.g) _ c.load_gate.ensures (length-gate-numbers _ _ _ ∙ sym m), m), c.requires.1)
-
-pub mat_mul-requires-2 : goal.mat_mul-requires-2
-mat_mul-requires-2 c =
-    let t = c.args.self.now in
-    let m = c.square-m.ensures.0 in
-    (t.card.shaped.limits.dimension, omega (arith, front_length (mat_mul_of _ _ _) _ c.mat_mul.ensures (length-mat-mul _ _ _ ∙ sym m), m), t.whole_inverse, front_fits (gate_of t.card.bytes.now t.card.header c.args.g) _ c.load_gate.ensures (length-gate-numbers _ _ _))
 
 pub returns : goal.returns
 unfolding new_gate

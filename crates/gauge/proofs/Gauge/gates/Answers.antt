@@ -1,6 +1,6 @@
 use Rattle.std.proofs.Common.{ℕ, ◌*◌, length, length-take, length-drop, refl, sym, ap, ◌∙◌, arith, rules}
 use Rattle.sizes.proofs.Small.{square-most}
-use Rattle.lists.proofs.Joined.{written_none, written-more, written-end}
+use Rattle.lists.proofs.Joined.{written_none, written-more}
 use Rattle.lists.proofs.Parts.{row_fits}
 use Rattle.gauge.specs.Gauge.{new_gate}
 use Rattle.gauge.proofs.Lengths.{gates-length}
@@ -23,6 +23,3 @@ loop-g-preserved c =
     let l = c.loop-g in
     let t = c.args.self.now in
     (search rules, written-more (new_gate t.matrix.now t.inverse.now t.card.bytes.now t.card.header) _ l.g _ _ l.out _ _ (gates-length _ _ t.matrix.now t.inverse.now _ ∙ ap (λ (m : ℕ). l.g * m) (sym c.square-m.ensures.0)) refl l.invariant.1 refl c.gate.ensures)
-
-pub returns : goal.returns
-returns c = written-end _ _ _ _ _ (omega arith) c.loop-g.invariant.1

@@ -1,16 +1,11 @@
-use Rattle.std.proofs.Common.{List, ◌++◌, drop, ap, ◌∙◌, arith}
+use Rattle.std.proofs.Common.{List, ◌++◌, drop, ap, ◌∙◌}
 use lib.Ieee.{Float}
-use Rattle.lists.proofs.Parts.{front-again, front_length, over-front}
+use Rattle.lists.proofs.Parts.{front-again, over-front}
 use Rattle.matrix.specs.Product.{mat_vec_of}
 use Rattle.card_parts.specs.Model.{state_of}
 use Rattle.gauge.specs.Gauge.{new_state}
 use Rattle.gauge.proofs.Lengths.{length-state, state-in-length}
 use Rattle.gauge.proofs.Gauge.state.Goals as goal
-
-pub mat_vec-requires : goal.mat_vec-requires
-mat_vec-requires c =
-    let t = c.args.self.now in
-    (t.card.shaped.limits.dimension, t.whole, omega (arith, front_length (state_of t.card.bytes.now t.card.header) _ c.load_state.ensures (length-state _ _)), c.requires.1)
 
 pub returns : goal.returns
 unfolding new_state

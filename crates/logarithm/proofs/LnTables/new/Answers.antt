@@ -4,6 +4,6 @@ use Rattle.logarithm.specs.Series.{nested, ln1p}
 use Rattle.logarithm.proofs.Test.{tabled}
 use Rattle.logarithm.proofs.LnTables.new.Goals as goal
 
-pub invariant_of-result : goal.invariant_of-result
+pub returns : goal.returns
 unfolding ln1p nested of_bits of_int
-invariant_of-result c = record { tabled = tabled _ _ tt refl refl refl refl }
+returns c = tabled _ _ tt refl refl refl refl
