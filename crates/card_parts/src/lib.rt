@@ -12,6 +12,10 @@ use card_places::{Layout, model_at};
 use numbers::{load, word_at};
 use sizes::square;
 
+mod records;
+
+pub use records::GstRecords;
+
 // A card that the reader accepts: its bytes, the fields of its word 0, and that it has the shape that these say.
 #[derive(Clone, Copy)]
 pub struct Card<'a> {

@@ -1,6 +1,6 @@
 -- The likelihood of a card's records under a model (the Rust's `fit_diagnostics_with_tolerance`): record by record, all of one before any of the next.
 use Rattle.likelihood.specs.declared.Unfit.TheVariants.{Refused}
-use Rattle.std.specs.Prelude.{Err, Ok, ℕ, ◌≤◌, ◌≡◌, Bool, List, length, Float}
+use Rattle.std.specs.Prelude.{Err, Ok, ℕ, ◌*◌, ◌≤◌, ◌≡◌, Bool, List, length, Float}
 use Rattle.lists.specs.Build.{build}
 use Rattle.lists.specs.Fold.{fold}
 use Rattle.numbers.specs.Number.{zero_f}
@@ -37,6 +37,14 @@ likelihood_of deviance tolerance s h m = likelihood_by ln deviance tolerance s h
 
 -- ---- what the code is lent
 
+-- a model's gates by columns
+abbrev pub columns_of : Header → List Float → List Float
+columns_of h m = columns_in h.dimension h.effects h.gates m
+
 -- a model's numbers and its gates by columns
 abbrev pub Columned : Header → List Float → List Float → Type 0
-Columned h m columns = (model_numbers h ≤ length m) × (columns ≡ columns_in h.dimension h.effects h.gates m)
+Columned h m columns = (model_numbers h ≤ length m) × (columns ≡ columns_of h m)
+
+-- room for a model's numbers, and for its gates by columns
+abbrev pub Roomy : Header → List Float → List Float → Type 0
+Roomy h model columns = (model_numbers h ≤ length model) × (h.gates * (h.dimension * h.dimension) ≤ length columns)

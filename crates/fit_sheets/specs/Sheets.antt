@@ -1,11 +1,10 @@
 -- The sheet of a fit, kind 5 (document 01): `fit R S E V`, six numbers, and the words of the model.
-use Rattle.std.specs.Prelude.{Ok, ℕ, ◌≤◌, ◌<◌, ◌≡◌, List, [], ◌∷◌, ◌++◌, Float}
+use Rattle.std.specs.Prelude.{Ok, ℕ, ◌≤◌, ◌≡◌, List, [], ◌∷◌, ◌++◌, Float}
 use Rattle.numbers.specs.Word.{word_at}
 use Rattle.numbers.specs.Slice.{words_of}
 use Rattle.refusal.specs.Verdicts.{after}
 use Rattle.card_layout.specs.declared.Header.{Header}
 use Rattle.card_layout.specs.Limits.{most_iterations, most_backtracks}
-use Rattle.card_parts.specs.Parts.{Sequence}
 use Rattle.card_places.specs.Places.{model_words}
 use Rattle.model.specs.Checked.{checked_of}
 use Rattle.model_words.specs.Words.{model_words_of}
@@ -17,10 +16,9 @@ use Rattle.fit.specs.Outcome.{job_of}
 use Rattle.outcome.specs.declared.Answer.TheVariants.{Fit}
 use Rattle.outcome.specs.Outcome.{Outcome, refused}
 
--- what a fit asks of its card beside its shape: its kind, and the limits of its controls and sequences (an accepted card of kind 5 has them)
+-- what a fit asks of its card beside its records: its kind, and the limits of its controls (an accepted card of kind 5 has them)
 pub record FitRequest (s : List ℕ) (h : Header) : Type 0 where
   pub kind : h.kind ≡ 5
-  pub sequences : (r : ℕ) → r < h.records → Sequence s h r
   pub iterations : word_at s 1 ≤ most_iterations
   pub backtracks : word_at s 7 ≤ most_backtracks
 

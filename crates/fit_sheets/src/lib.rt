@@ -12,7 +12,7 @@ ghost use Rattle.fit.specs.Outcome.{job_of, fitted_of};
 ghost use Rattle.outcome.specs.Outcome.{Gives};
 ghost use Rattle.fit_sheets.specs.Sheets.{fit_numbers, fit_words, FitRequest, outcome_sheet, fit_sheet};
 
-use card_parts::Card;
+use card_parts::{Card, GstRecords};
 use fit::Shown;
 use outcome::Answer;
 use refusal::Refusal;
@@ -59,23 +59,23 @@ fn show_fit(card: &Card<'_>, f: Shown, model: &[f64], res: &mut [u64]) -> Answer
 }
 
 // The fit of a card whose model and request are good.
-fn run_fit(card: &Card<'_>, res: &mut [u64]) -> Result<Answer, Refusal>
-    requires { FitRequest card.now.bytes.now card.now.header × (request_verdict card.now.bytes.now card.now.header ≡ good) × (4096 ≤ length res.old) }
-    ensures { Gives (outcome_sheet card.now.bytes.now card.now.header (fit_of (job_of card.now.bytes.now card.now.header))) res.old res.new result }
+fn run_fit(records: &GstRecords<'_>, res: &mut [u64]) -> Result<Answer, Refusal>
+    requires { FitRequest records.now.card.bytes.now records.now.card.header × (request_verdict records.now.card.bytes.now records.now.card.header ≡ good) × (4096 ≤ length res.old) }
+    ensures { Gives (outcome_sheet records.now.card.bytes.now records.now.card.header (fit_of (job_of records.now.card.bytes.now records.now.card.header))) res.old res.new result }
 {
-    let n = model_words::model_numbers(card.header);
+    let n = model_words::model_numbers(records.card.header);
     let mut model = [0.0; 2320];
     let mut columns = [0.0; 2048];
-    let f = fit::reconstruct_gate_set(card, &mut model, &mut columns)?;
-    Ok(show_fit(card, f, &model[..n], res))
+    let f = fit::reconstruct_gate_set(records, &mut model, &mut columns)?;
+    Ok(show_fit(&records.card, f, &model[..n], res))
 }
 
 // Kind 5. The model is tested before what is asked of the fit.
-pub fn fit_sheet(card: &Card<'_>, res: &mut [u64]) -> Result<Answer, Refusal>
-    requires { FitRequest card.now.bytes.now card.now.header × (4096 ≤ length res.old) }
-    ensures { Gives (fit_sheet card.now.bytes.now card.now.header) res.old res.new result }
+pub fn fit_sheet(records: &GstRecords<'_>, res: &mut [u64]) -> Result<Answer, Refusal>
+    requires { FitRequest records.now.card.bytes.now records.now.card.header × (4096 ≤ length res.old) }
+    ensures { Gives (fit_sheet records.now.card.bytes.now records.now.card.header) res.old res.new result }
 {
-    model::check(card)?;
-    parameters::check_request(card)?;
-    run_fit(card, res)
+    model::check(&records.card)?;
+    parameters::check_request(&records.card)?;
+    run_fit(records, res)
 }

@@ -52,7 +52,7 @@ fn pass(x: &mut [f64; 16], columns: &[f64], g: usize, d: usize)
 }
 
 // The states at the fronts of xs, one for each model, put through a sequence by the gates of their models. The sequence is read once for all, and the
-// processor works on one state while it waits for another.
+// processor works on one state while it waits for another. Here and below models are a slice whose length is N: of an array of N models the parts got no proof.
 fn run_of<const N: usize>(
     models: &[Model<'_>],
     d: usize,
@@ -69,20 +69,18 @@ fn run_of<const N: usize>(
     }
 }
 
-// The same, by size: `by_size` lends one slice of numbers, and these are several.
+// The same, by size. Of a closure over a const parameter no clauses are inferred, so it has those of `run_of`.
 fn run<const N: usize>(models: &[Model<'_>], d: usize, sequence: &[usize], xs: &mut [[f64; 16]; N])
     requires { (d ≤ 16) × (length models.now ≡ N) × AllLying d models.now sequence.now }
     ensures { AllThrough d models.now sequence.now xs.old xs.new }
 {
-    if d == 16 {
-        run_of(models, 16, sequence, xs);
-        return;
-    }
-    if d == 4 {
-        run_of(models, 4, sequence, xs);
-        return;
-    }
-    run_of(models, d, sequence, xs);
+    by_size(
+        d,
+        &mut |d|
+            requires { (d ≤ 16) × (length models.now ≡ N) × AllLying d models.now sequence.now }
+            ensures { AllThrough d models.entry.now sequence.entry.now xs.entry.now xs.exit.now }
+        { run_of(models, d, sequence, xs) },
+    )
 }
 
 // What the effects give of the state x. They lie behind the state, as rows of its length.

@@ -10,6 +10,7 @@ use lib.Ieee.{Float}
 use Rattle.lists.specs.Build.{over, joined}
 use Rattle.lists.proofs.Choices.{yes, no}
 use Rattle.lists.proofs.Joined.{over-onto}
+use Rattle.lists.proofs.Parts.{over-front}
 use Rattle.numbers.specs.Slice.{all_finite}
 use Rattle.refusal.specs.declared.Refusal.{Refusal}
 use Rattle.refusal.specs.declared.Refusal.TheVariants.{NonFinite, SingularGaugeTransform}
@@ -98,3 +99,7 @@ module _ (s : List ℕ) (h : Header) where
       b ∙ ap (finite_or NonFinite) model_is ∙ ap (λ (x : Verdict). first_of x (finite_or NonFinite (new_model s h))) (sym g ∙ a),
       o ∙ ap (λ (x : List Float). over x l) (model_is ∙ ap (λ (x : Verdict). after x (λ _. []) (new_model s h)) (sym g ∙ a)),
     )
+
+-- A part x of the card, which was read as y, under f, whose result has n numbers, at the front of the room l, whose rest stays.
+pub put_under : (f : List Float → List Float) {x y : List Float} (l : List Float) {r z : List Float} {n : ℕ} → length (f x) ≡ n → y ≡ x → r ≡ drop n l → z ≡ f y ++ r → z ≡ over (f x) l
+put_under f {x} l k e t w = over-front (f x) l k (w ∙ ap₂ (λ (y r : List Float). f y ++ r) e t)

@@ -41,13 +41,14 @@ struct Gauge<'a> {
     card: Card<'a>,
     matrix: &'a [f64],
     inverse: &'a [f64],
+    ghost has_model: { 5 ≤ card.header.kind },
     ghost whole: { card.header.dimension * card.header.dimension ≤ length matrix.now },
     ghost whole_inverse: { card.header.dimension * card.header.dimension ≤ length inverse.now },
 }
 
 impl<'a> Gauge<'a> {
     fn state(&self, out: &mut [f64])
-        requires { (5 ≤ self.now.card.header.kind) × (self.now.card.header.dimension ≤ length out.old) }
+        requires { self.now.card.header.dimension ≤ length out.old }
         ensures { out.new ≡ over (new_state self.now.matrix.now self.now.card.bytes.now self.now.card.header) out.old }
     {
         let d = self.card.header.dimension;
@@ -104,7 +105,7 @@ impl<'a> Gauge<'a> {
 
     // All numbers of the new model, one part after the other.
     fn model(&self, work: &mut [f64])
-        requires { (5 ≤ self.now.card.header.kind) × (model_numbers self.now.card.header ≤ length work.old) }
+        requires { model_numbers self.now.card.header ≤ length work.old }
         ensures { work.new ≡ over (transformed self.now.matrix.now self.now.inverse.now self.now.card.bytes.now self.now.card.header) work.old }
     {
         let d = self.card.header.dimension;
@@ -116,7 +117,7 @@ impl<'a> Gauge<'a> {
 
     // The numbers of the new model at the front of the work slice, and whether they are finite.
     fn tested(&self, work: &mut [f64]) -> Result<(), Refusal>
-        requires { (5 ≤ self.now.card.header.kind) × (model_numbers self.now.card.header ≤ length work.old) }
+        requires { model_numbers self.now.card.header ≤ length work.old }
         ensures { (result ≡ finite_or NonFinite (transformed self.now.matrix.now self.now.inverse.now self.now.card.bytes.now self.now.card.header)) × (work.new ≡ over (transformed self.now.matrix.now self.now.inverse.now self.now.card.bytes.now self.now.card.header) work.old) }
     {
         let count = model_numbers(self.card.header);

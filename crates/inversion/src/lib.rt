@@ -5,8 +5,12 @@ ghost use Rattle.std.specs.Prelude.{◌≡◌, ◌++◌, ℕ, ◌+◌, ◌*◌, 
 ghost use Rattle.lists.specs.Build.{build, over};
 ghost use Rattle.lists.specs.Fold.{fold};
 ghost use Rattle.inversion.specs.Inversion.{beside_identity, Reduction, rows, column_reduced, invertible, inverse_of};
-ghost use Rattle.inversion.specs.Kept.{start_at, start_rows, relabelled, Stands, kept_right};
+ghost use Rattle.inversion.specs.Kept.{start_at, start_rows, relabelled, kept_right};
+ghost use Rattle.inversion.specs.Held.{Held};
 
+mod kept;
+
+use kept::Kept;
 use matrix::{by_size, row};
 
 // A pivot is too small beside the largest size.
@@ -39,7 +43,7 @@ fn start_rows(a: &[f64], n: usize, work: &mut [f64])
     requires { (n ≤ 16) × (n * n ≤ length a.now) × (length work.old ≡ n * (2 * n + 2)) }
     ensures { work.new ≡ start_rows n a.now }
 {
-    by_size(n, work, |n, work| start_rows_of(a, n, work))
+    by_size(n, &mut |n| start_rows_of(a, n, work))
 }
 
 // Before the first step column c of the right half has its 1 in row c.
@@ -76,47 +80,6 @@ fn relabel(places: &mut [usize], k: usize, p: usize)
     }
 }
 
-// Clears column k, unless the reduction ends here.
-fn reduce_column(
-    work: &mut [f64],
-    places: &mut [usize],
-    n: usize,
-    k: usize,
-    limit: f64,
-) -> Result<(), Singular>
-    requires { (n ≤ 16) × (k < n) × (length work.old ≡ n * (2 * n + 2)) × (length places.old ≡ n) }
-    ensures { (s : Reduction) → Stands n k true places.old work.old s → Stands n (k + 1) (is_ok result) places.new work.new (column_reduced n limit k s) }
-{
-    let w = 2 * n + 2;
-    let p = pivots::pivot_row(work, n, w, k);
-    if pivots::size_at(work, n, w, k, p) <= limit {
-        return Err(Singular);
-    }
-    elimination::clear_column(work, n, k, p);
-    relabel(places, k, p);
-    Ok(())
-}
-
-// Column after column.
-fn reduce(
-    a: &[f64],
-    n: usize,
-    limit: f64,
-    work: &mut [f64],
-    places: &mut [usize],
-) -> Result<(), Singular>
-    requires { (n ≤ 16) × (n * n ≤ length a.now) × (length work.old ≡ n * (2 * n + 2)) × (length places.old ≡ n) }
-    ensures { Stands n n (is_ok result) places.new work.new (fold n (column_reduced n limit) (rows (beside_identity n a.now))) }
-{
-    start_rows(a, n, work);
-    number_places(places);
-    // By number: a step changes every row.
-    for k in 0..n {
-        reduce_column(work, places, n, k, limit)?;
-    }
-    Ok(())
-}
-
 // The right half, each column from its place.
 fn right_halves_of(work: &[f64], places: &[usize], n: usize, out: &mut [f64])
     requires { (n ≤ 16) × (n * (2 * n + 2) ≤ length work.now) × (length places.now ≡ n) × ((c : ℕ) → c < n → get_or places.now c 0 < n) × (n * n ≤ length out.old) }
@@ -130,12 +93,48 @@ fn right_halves_of(work: &[f64], places: &[usize], n: usize, out: &mut [f64])
     }
 }
 
-// The same, by size.
-fn right_halves(work: &[f64], places: &[usize], n: usize, out: &mut [f64])
-    requires { (n ≤ 16) × (n * (2 * n + 2) ≤ length work.now) × (length places.now ≡ n) × ((c : ℕ) → c < n → get_or places.now c 0 < n) × (n * n ≤ length out.old) }
-    ensures { out.new ≡ kept_right n places.now work.now ++ drop (n * n) out.old }
-{
-    by_size(n, out, |n, out| right_halves_of(work, places, n, out))
+impl Kept<'_> {
+    // Clears column k, unless the reduction ends here.
+    fn reduce_column(&mut self, k: usize, limit: f64) -> Result<(), Singular>
+        requires { k < self.old.n }
+        ensures { (n : ℕ) (s : Reduction) → Held n k true self.old s → Held n (k + 1) (is_ok result) self.new (column_reduced n limit k s) }
+    {
+        let n = self.n;
+        let w = 2 * n + 2;
+        let rows = &mut *self.rows;
+        let p = pivots::pivot_row(rows, n, w, k);
+        if pivots::size_at(rows, n, w, k, p) <= limit {
+            return Err(Singular);
+        }
+        elimination::clear_column(rows, n, k, p);
+        relabel(self.places, k, p);
+        Ok(())
+    }
+
+    // The matrix a, column after column.
+    fn reduce(&mut self, a: &[f64], limit: f64) -> Result<(), Singular>
+        requires { self.old.n * self.old.n ≤ length a.now }
+        ensures { Held self.old.n self.old.n (is_ok result) self.new (fold self.old.n (column_reduced self.old.n limit) (rows (beside_identity self.old.n a.now))) }
+    {
+        start_rows(a, self.n, self.rows);
+        number_places(self.places);
+        // By number: a step changes every row.
+        for k in 0..self.n {
+            self.reduce_column(k, limit)?;
+        }
+        Ok(())
+    }
+
+    // The right half, by size.
+    fn right_half(&self, out: &mut [f64])
+        requires { ((c : ℕ) → c < self.now.n → get_or self.now.places.now c 0 < self.now.n) × (self.now.n * self.now.n ≤ length out.old) }
+        ensures { out.new ≡ kept_right self.now.n self.now.places.now self.now.rows.now ++ drop (self.now.n * self.now.n) out.old }
+    {
+        by_size(
+            self.n,
+            &mut |n| right_halves_of(self.rows, self.places, n, out),
+        )
+    }
 }
 
 // The same as `invert`, in the room for the rows that it is lent.
@@ -155,10 +154,13 @@ fn invert_within(
     }
     let size = n * (2 * n + 2);
     let mut places = [0usize; 16];
-    let work = &mut work[..size];
-    let places = &mut places[..n];
-    reduce(a, n, threshold * scale, work, places)?;
-    right_halves(work, places, n, out);
+    let mut kept = Kept {
+        rows: &mut work[..size],
+        places: &mut places[..n],
+        n,
+    };
+    kept.reduce(a, threshold * scale)?;
+    kept.right_half(out);
     Ok(())
 }
 

@@ -10,19 +10,17 @@ ghost use Rattle.matrix.specs.Product.{cell, dot_of, mat_vec_of, row_mat_of, mat
 
 use std::ops::Range;
 
-// Calls f at the size n and `out`. The sizes of one and two qubits, 4 and 16, are passed on as constants, so that the compiler unrolls the loops of f
-// and keeps a row in registers.
-pub fn by_size<R, F: Fn(usize, &mut [f64]) -> R>(n: usize, out: &mut [f64], f: F) -> R
-    requires { (y : _) → y.now ≡ out.old → F.pre f n y }
-    ensures { (y : _) × (z : _) × (y.now ≡ out.old) × F.post f n y result z × (out.new ≡ z.now) }
+// Calls f at the size n. The sizes of one and two qubits, 4 and 16, are passed on as constants, so that the compiler unrolls the loops of f and keeps a row
+// in registers. f is lent: of a closure that is moved in, the caller does not learn what it wrote.
+pub fn by_size<R, F: FnMut(usize) -> R>(n: usize, f: &mut F) -> R
+    requires { F.pre f.old n }
+    ensures { F.step f.old n result f.new }
 {
-    if n == 16 {
-        return f(16, out);
+    match n {
+        4 => f(4),
+        16 => f(16),
+        _ => f(n),
     }
-    if n == 4 {
-        return f(4, out);
-    }
-    f(n, out)
 }
 
 // The places of row i, where rows of w numbers lie one after the other. Loops over rows go by these places: of what `chunks_exact_mut` lends, std tells nothing
@@ -65,7 +63,7 @@ pub fn mat_vec(a: &[f64], x: &[f64], n: usize, out: &mut [f64])
     requires { (n ≤ 16) × (n * n ≤ length a.now) × (n ≤ length x.now) × (n ≤ length out.old) }
     ensures { out.new ≡ mat_vec_of n a.now x.now ++ drop n out.old }
 {
-    by_size(n, out, |n, out| mat_vec_of(a, x, n, out))
+    by_size(n, &mut |n| mat_vec_of(a, x, n, out))
 }
 
 // Adds f times another row.
@@ -104,10 +102,13 @@ pub fn row_times(x: &mut [f64], a: &[f64], n: usize)
     requires { (n ≤ 16) × (length x.old ≡ n) × (n * n ≤ length a.now) }
     ensures { x.new ≡ row_mat_of n x.old a.now }
 {
-    by_size(n, x, |n, x| {
-        let sums = sums_of(x, a, n);
-        x.copy_from_slice(&sums[..n]);
-    })
+    by_size(
+        n,
+        &mut |n| {
+            let sums = sums_of(x, a, n);
+            x.copy_from_slice(&sums[..n]);
+        },
+    )
 }
 
 // The row x times the matrix a, into the first n numbers of `out`.
@@ -115,11 +116,7 @@ pub fn row_mat(x: &[f64], a: &[f64], n: usize, out: &mut [f64])
     requires { (n ≤ 16) × (n ≤ length x.now) × (n * n ≤ length a.now) × (n ≤ length out.old) }
     ensures { out.new ≡ row_mat_of n x.now a.now ++ drop n out.old }
 {
-    by_size(
-        n,
-        out,
-        |n, out| out[..n].copy_from_slice(&sums_of(x, a, n)[..n]),
-    )
+    by_size(n, &mut |n| out[..n].copy_from_slice(&sums_of(x, a, n)[..n]))
 }
 
 // Writes the row over with the front of `from`.
@@ -147,7 +144,7 @@ pub fn mat_mul(a: &[f64], b: &[f64], n: usize, out: &mut [f64])
     requires { (n ≤ 16) × (n * n ≤ length a.now) × (n * n ≤ length b.now) × (n * n ≤ length out.old) }
     ensures { out.new ≡ mat_mul_of n a.now b.now ++ drop (n * n) out.old }
 {
-    by_size(n, out, |n, out| mat_mul_of(a, b, n, out))
+    by_size(n, &mut |n| mat_mul_of(a, b, n, out))
 }
 
 // Column j of the matrix a.
@@ -176,5 +173,5 @@ pub fn transpose(a: &[f64], n: usize, out: &mut [f64])
     requires { (n ≤ 16) × (n * n ≤ length a.now) × (n * n ≤ length out.old) }
     ensures { out.new ≡ transposed_of n a.now ++ drop (n * n) out.old }
 {
-    by_size(n, out, |n, out| transpose_of(a, n, out))
+    by_size(n, &mut |n| transpose_of(a, n, out))
 }

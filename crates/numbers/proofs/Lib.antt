@@ -2,6 +2,4 @@ pub mod Leaves
 pub mod Finite
 pub mod Products
 pub mod Slices
-pub mod Shifts
 pub mod Order
-pub mod Fours

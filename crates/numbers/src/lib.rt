@@ -2,34 +2,28 @@
 #![tactic(auto)]
 
 ghost use Rattle.std.specs.Prelude.{◌≡◌, ◌++◌, ℕ, ◌+◌, ◌*◌, ◌%◌, ◌≤◌, ◌<◌, length, get_or, drop};
-ghost use Rattle.std.specs.Int.Bits.{bit_or};
 ghost use Rattle.lists.specs.Build.{build};
 ghost use Rattle.numbers.specs.Word.{word_at};
 ghost use Rattle.numbers.specs.Number.{number, word, finite, positive, abs, max, negative, precedes};
 ghost use Rattle.numbers.specs.Slice.{at, numbers_at, words_of, blank, all_finite};
 
-fn byte(card: &[u8], i: usize) -> u64
-    requires { i < length card.now }
-    ensures { (result ≡ get_or card.now i 0) × (result < 256) }
-{
-    card[i] as u64
-}
-
-// Four bytes, the highest first. Of two halves by shifts and ors the compiler makes one load with its bytes reversed.
-fn half_at(card: &[u8], b: usize) -> u64
-    requires { b + 4 ≤ length card.now }
-    ensures { (result ≡ ((get_or card.now b 0 * 256 + get_or card.now (b + 1) 0) * 256 + get_or card.now (b + 2) 0) * 256 + get_or card.now (b + 3) 0) × (result < 4294967296) }
-{
-    (byte(card, b) << 24) | (byte(card, b + 1) << 16) | (byte(card, b + 2) << 8) | byte(card, b + 3)
-}
-
 // Word number `place` of the card.
+#[tactic(auto, unfolding(crate::specs::Word::word_at, lists::specs::Fold::fold))]
 pub fn word_at(card: &[u8], place: usize) -> u64
     requires { place * 8 + 8 ≤ length card.now }
     ensures { result ≡ word_at card.now place }
 {
     let b = place * 8;
-    (half_at(card, b) << 32) | half_at(card, b + 4)
+    u64::from_be_bytes([
+        card[b],
+        card[b + 1],
+        card[b + 2],
+        card[b + 3],
+        card[b + 4],
+        card[b + 5],
+        card[b + 6],
+        card[b + 7],
+    ])
 }
 
 // The number that a word holds. Every NaN pattern gives a NaN.
@@ -122,64 +116,14 @@ pub fn is_finite_word(w: u64) -> bool
     w % 0x8000_0000_0000_0000 < 0x7ff0_0000_0000_0000
 }
 
-fn load_each(card: &[u8], from: usize, n: usize, out: &mut [f64])
+// Puts the n numbers from word `from` of the card at the front of the slice.
+pub fn load(card: &[u8], from: usize, n: usize, out: &mut [f64])
     requires { ((from + n) * 8 ≤ length card.now) × (n ≤ length out.old) }
     ensures { out.new ≡ numbers_at card.now from n ++ drop n out.old }
 {
     for (i, x) in out[..n].iter_mut().enumerate() {
         *x = number_of(word_at(card, from + i));
     }
-}
-
-// Four words without their signs, ored. None of them is above that.
-fn sizes_ored(a: u64, b: u64, c: u64, d: u64) -> u64
-    ensures { result ≡ bit_or (bit_or (a % 0x8000_0000_0000_0000) (b % 0x8000_0000_0000_0000)) (bit_or (c % 0x8000_0000_0000_0000) (d % 0x8000_0000_0000_0000)) }
-{
-    let m = 0x8000_0000_0000_0000;
-    (a % m | b % m) | (c % m | d % m)
-}
-
-// Four numbers. Nearly always one test shows that none is a NaN; where it does not, each is looked at.
-fn load_four(card: &[u8], from: usize, out: &mut [f64])
-    requires { ((from + 4) * 8 ≤ length card.now) × (length out.old ≡ 4) }
-    ensures { out.new ≡ numbers_at card.now from 4 }
-{
-    let a = word_at(card, from);
-    let b = word_at(card, from + 1);
-    let c = word_at(card, from + 2);
-    let d = word_at(card, from + 3);
-    if sizes_ored(a, b, c, d) > 0x7ff0_0000_0000_0000 {
-        load_each(card, from, 4, out);
-        return;
-    }
-    out[0] = f64::from_bits(a);
-    out[1] = f64::from_bits(b);
-    out[2] = f64::from_bits(c);
-    out[3] = f64::from_bits(d);
-}
-
-// By index, since an invariant over `chunks_exact_mut` does not see what the turns have written.
-fn load_fours(card: &[u8], from: usize, count: usize, out: &mut [f64])
-    requires { ((from + count * 4) * 8 ≤ length card.now) × (count * 4 ≤ length out.old) }
-    ensures { out.new ≡ numbers_at card.now from (count * 4) ++ drop (count * 4) out.old }
-{
-    for i in 0..count {
-        let start = i * 4;
-        let end = start + 4;
-        load_four(card, from + start, &mut out[start..end]);
-    }
-}
-
-// Puts the n numbers from word `from` of the card at the front of the slice. Four at a time take half the time.
-pub fn load(card: &[u8], from: usize, n: usize, out: &mut [f64])
-    requires { ((from + n) * 8 ≤ length card.now) × (n ≤ length out.old) }
-    ensures { out.new ≡ numbers_at card.now from n ++ drop n out.old }
-{
-    if n % 4 == 0 {
-        load_fours(card, from, n / 4, out);
-        return;
-    }
-    load_each(card, from, n, out);
 }
 
 // Puts the words of the first n numbers at the front of the result.

@@ -1,9 +1,7 @@
 -- What a fit card gives to its fit.
-use Rattle.std.specs.Prelude.{Err, Ok, ℕ, ◌*◌, ◌≤◌, ◌<◌, true, List, length, get_or, Float}
+use Rattle.std.specs.Prelude.{Err, Ok, ℕ, ◌≤◌, ◌<◌, true, List, length, get_or, Float}
 use Rattle.refusal.specs.Verdicts.{Verdict}
 use Rattle.card_layout.specs.declared.Header.{Header}
-use Rattle.card_places.specs.Shape.{Shaped}
-use Rattle.card_parts.specs.Parts.{Sequence}
 use Rattle.model_words.specs.Words.{model_numbers, numbers_of}
 use Rattle.diagnostics.specs.Diagnostics.{likelihood_of}
 use Rattle.descent.specs.declared.GstOptimizerConfig.{GstOptimizerConfig}
@@ -13,17 +11,11 @@ use Rattle.descent.specs.Fit.{Job, Slopes, slopes, unusable}
 abbrev pub job_by : List ℕ → Header → List ℕ → GstOptimizerConfig → Job
 job_by s h places c = record { model = numbers_of s h; places = places; config = c; likelihood = likelihood_of true c.probability_tolerance s h }
 
--- a card with its coordinates' places, which lie within the model
-pub record Placed (s : List ℕ) (h : Header) (places : List ℕ) : Type 0 where
-  pub shaped : Shaped s h
+-- coordinates' places, which lie within the model of a card with this header
+pub record Placed (h : Header) (places : List ℕ) : Type 0 where
   pub kind : 5 ≤ h.kind
-  pub sequences : (r : ℕ) → r < h.records → Sequence s h r
   pub few : length places ≤ 64
   pub inside : (i : ℕ) → i < length places → get_or places i 0 < model_numbers h
-
--- room for a model's numbers, and for its gates by columns
-abbrev pub Roomy : Header → List Float → List Float → Type 0
-Roomy h model columns = (model_numbers h ≤ length model) × (h.gates * (h.dimension * h.dimension) ≤ length columns)
 
 -- a gradient's verdict with the numbers that it left
 abbrev pub slopes_of : Verdict → List Float → Slopes

@@ -21,10 +21,11 @@ pub use task::{Limited, Task};
 
 // The card's model with xs at the places: of two at one place the later wins.
 pub fn fill(card: &Card<'_>, places: &[usize], xs: &[f64], model: &mut [f64])
-    requires { Placed card.now.bytes.now card.now.header places.now × (length xs.now ≡ length places.now) × (length model.old ≡ model_numbers card.now.header) }
+    requires { Placed card.now.header places.now × (length xs.now ≡ length places.now) × (length model.old ≡ model_numbers card.now.header) }
     ensures { model.new ≡ spec.put places.now xs.now (numbers_of card.now.bytes.now card.now.header) }
 {
     model_words::load(card, model);
+    // By an index: over a `zip` the place's bound is not found, and five goals want an answer where three do.
     for (i, place) in places.iter().enumerate() {
         model[*place] = xs[i];
     }

@@ -61,6 +61,8 @@ fn has_room(res: &[u64], work: &[f64]) -> bool
 }
 
 // Runs an entry point where the lent slices are long enough, and clears the work slice at every exit.
+// What it runs takes the two slices, and says how long they are: arrays would be exactly so long, and of a struct that lends both each function would have to say that
+// it keeps the references.
 pub fn in_room<F: FnOnce(&mut [u64], &mut [f64]) -> Result<Answer, Refusal>>(
     res: &mut [u64],
     work: &mut [f64],

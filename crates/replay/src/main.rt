@@ -13,14 +13,6 @@ use std::io;
 use std::io::{Read, Write};
 use std::rt::Files;
 
-// How the bytes that a file stores are answered.
-#[derive(Clone, Copy)]
-enum Stored {
-    Sheets,
-    Readings,
-    Calls,
-}
-
 // The library's entries, under the numbers that the stored calls name them by.
 #[derive(Clone, Copy)]
 enum Entry {
@@ -190,51 +182,66 @@ fn next<'c, R: Read>(file: &mut R, room: &'c mut [u8]) -> io::Result<Option<&'c 
     Ok(Some(card))
 }
 
-// One card of the file; whether there was one.
-fn one<R: Read, W: Write>(file: &mut R, out: &mut Output<W>, stored: Stored) -> io::Result<bool> {
+// Answers one card of the file; whether there was one.
+fn one<R: Read, W: Write, F: Fn(&mut Output<W>, &[u8])>(
+    file: &mut R,
+    out: &mut Output<W>,
+    answer: F,
+) -> io::Result<bool>
+    requires { F.IsAlwaysCallable answer }
+{
     let mut room = [0u8; 65537];
     let Some(card) = next(file, &mut room)? else {
         return Ok(false);
     };
-    match stored {
-        Stored::Sheets => answer(out, |res, work| tomography::sheet(card, res, work)),
-        Stored::Readings => {
-            print_reading(out, card::read(card));
-        }
-        Stored::Calls => {
-            answer_call(out, card);
-        }
-    }
+    answer(out, card);
     Ok(true)
 }
 
-fn all<R: Read, W: Write>(file: &mut R, out: &mut Output<W>, stored: Stored) -> io::Result<()> {
+fn all<R: Read, W: Write, F: Fn(&mut Output<W>, &[u8])>(
+    file: &mut R,
+    out: &mut Output<W>,
+    answer: F,
+) -> io::Result<()>
+    requires { F.IsAlwaysCallable answer }
+{
     // So many at most, so that the loop ends.
     for _ in 0..100000 {
-        if !one(file, out, stored)? {
+        if !one(file, out, &answer)? {
             return Ok(());
         }
     }
     Ok(())
 }
 
-// A file that cannot be opened is told of, and passed over.
-fn replay<R: Files + Eprint, W: Write>(
+// Answers all cards of a file. One that cannot be opened is told of, and passed over.
+fn replay<R: Files + Eprint, W: Write, F: Fn(&mut Output<W>, &[u8])>(
     rt: &R,
     out: &mut Output<W>,
     path: &str,
-    stored: Stored,
-) -> io::Result<()> {
+    answer: F,
+) -> io::Result<()>
+    requires { F.IsAlwaysCallable answer }
+{
     match File::open(rt, path) {
-        Ok(mut file) => all(&mut file, out, stored),
+        Ok(mut file) => all(&mut file, out, answer),
         Err(e) => eprintln!(rt; "{path}: {e}"),
     }
 }
 
 fn main(rt: HostRuntime) -> io::Result<()> {
     let mut out = Output::new(rt.stdout());
-    replay(&rt, &mut out, "cards", Stored::Sheets)?;
-    replay(&rt, &mut out, "readings", Stored::Readings)?;
-    replay(&rt, &mut out, "calls", Stored::Calls)?;
+    replay(
+        &rt,
+        &mut out,
+        "cards",
+        |out, card| answer(out, |res, work| tomography::sheet(card, res, work)),
+    )?;
+    replay(&rt, &mut out, "readings", |out, card| {
+        print_reading(out, card::read(card));
+    })?;
+    replay(&rt, &mut out, "calls", |out, call| {
+        answer_call(out, call);
+    })?;
     out.finish()
 }

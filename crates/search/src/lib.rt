@@ -6,8 +6,7 @@ ghost use Rattle.lists.specs.Build.{build};
 ghost use Rattle.numbers.specs.Number.{◌-ᶠ◌, ◌*ᶠ◌};
 ghost use Rattle.numbers.specs.Slice.{at};
 ghost use Rattle.descent.specs.Fit as spec;
-ghost use Rattle.objective.specs.Job.{Roomy};
-ghost use Rattle.objective.specs.Tasks.{job_in};
+ghost use Rattle.objective.specs.Tasks.{job_in, RoomFor};
 ghost use Rattle.search.specs.Found.{FoundAt};
 
 use descent::Accepted;
@@ -20,6 +19,7 @@ fn trial(xs: &[f64], g: &[f64], s: f64, t: &mut [f64])
     requires { (length xs.now ≡ length t.old) × (length g.now ≡ length t.old) }
     ensures { t.new ≡ build (length t.old) (λ i. at xs.now i -ᶠ s *ᶠ at g.now i) }
 {
+    // By an index: over a `zip` with `iter_mut` the slice that is written has no name in the loop's invariant.
     for (i, x) in t.iter_mut().enumerate() {
         *x = xs[i] - s * g[i];
     }
@@ -36,7 +36,7 @@ pub fn search(
     columns: &mut [f64],
 ) -> Result<Option<Accepted>, Refusal>
     requires { (length xs.now ≡ length task.now.places.now) × (length g.now ≡ length task.now.places.now) × (length t.old ≡ length task.now.places.now) × (task.now.config.max_backtracks ≤ 255)
-        × Roomy task.now.card.now.header model.old columns.old }
+        × RoomFor task.now model.old columns.old }
     ensures { (result ≡ spec.search_to (job_in task.now) xs.now g.now o task.now.config.max_backtracks) × FoundAt (job_in task.now) xs.now g.now t.new result }
 {
     let mut s = task.config.initial_step;

@@ -144,7 +144,8 @@ pub fn check<'a>(
     check_gates(sequence, names.len())
 }
 
-// The probabilities, at the front of `out`; the gates by columns go to the front of `work`.
+// The probabilities, at the front of `out`; the gates by columns go to the front of `work`. Not of a `Given`, which holds the gates' names: here only their
+// number is known.
 pub fn probabilities<'a>(
     d: usize,
     effects: usize,

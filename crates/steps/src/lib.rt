@@ -4,8 +4,7 @@
 ghost use Rattle.std.specs.Prelude.{◌≡◌, ◌≤◌, ◌<◌, Ok, None, length, take, drop};
 ghost use Rattle.std.specs.Float.Ieee.{le};
 ghost use Rattle.numbers.specs.Number.{◌-ᶠ◌};
-ghost use Rattle.objective.specs.Job.{Roomy};
-ghost use Rattle.objective.specs.Tasks.{job_in};
+ghost use Rattle.objective.specs.Tasks.{job_in, RoomFor};
 ghost use Rattle.steps.specs.Running.{point_of, Sloped, Underway, Led, Ended, rest_of, accepted_of};
 
 use descent::GstTermination;
@@ -62,7 +61,7 @@ pub fn slope_at(
     model: &mut [f64],
     columns: &mut [f64],
 ) -> Result<f64, Refusal>
-    requires { (length task.now.places.now ≤ length g.old) × Roomy task.now.card.now.header model.old columns.old }
+    requires { (length task.now.places.now ≤ length g.old) × RoomFor task.now model.old columns.old }
     ensures { Sloped (job_in task.now) (point_of (length task.now.places.now) r.now) (take (length task.now.places.now) g.new) result
         × (drop (length task.now.places.now) g.new ≡ drop (length task.now.places.now) g.old) }
 {
@@ -83,7 +82,7 @@ fn descend(
     columns: &mut [f64],
 ) -> Result<Running, Refusal>
     requires { Underway r.now × (length g.now ≡ length limited.now.task.places.now) × Sloped (job_in limited.now.task) (point_of (length limited.now.task.places.now) r.now) g.now (Ok z)
-        × Roomy limited.now.task.card.now.header model.old columns.old }
+        × RoomFor limited.now.task model.old columns.old }
     ensures { Led (job_in limited.now.task) (length limited.now.task.places.now) r.now result }
 {
     let task = &limited.task;
@@ -115,7 +114,7 @@ fn step(
     model: &mut [f64],
     columns: &mut [f64],
 ) -> Result<Running, Refusal>
-    requires { Underway r.now × Roomy limited.now.task.card.now.header model.old columns.old }
+    requires { Underway r.now × RoomFor limited.now.task model.old columns.old }
     ensures { Led (job_in limited.now.task) (length limited.now.task.places.now) r.now result }
 {
     let task = &limited.task;
@@ -131,7 +130,7 @@ pub fn run(
     model: &mut [f64],
     columns: &mut [f64],
 ) -> Result<Running, Refusal>
-    requires { (start.evaluations ≡ 1) × (start.steps ≡ 0) × (start.stop ≡ None) × Roomy limited.now.task.card.now.header model.old columns.old }
+    requires { (start.evaluations ≡ 1) × (start.steps ≡ 0) × (start.stop ≡ None) × RoomFor limited.now.task model.old columns.old }
     ensures { Ended (job_in limited.now.task) (length limited.now.task.places.now) start result }
 {
     let mut r = start;

@@ -46,7 +46,7 @@ module _ (s : List ℕ) (h : Header) (e : read_of s ≡ Ok h) where
   fit_card k =
       let a = accepted s h e in
       let f = a.kind5 k in
-      record { kind = k; sequences = a.sequence; iterations = f.iterations; backtracks = f.backtracks }
+      record { kind = k; iterations = f.iterations; backtracks = f.backtracks }
 
 -- the sheet of kind 4 writes no word, whatever stands in the result
 pub physical_shown : (s l : List ℕ) (h : Header) (r : Answered) → h.kind ≡ 4 → ((l : List ℕ) → Gives (physical_sheet s h.qubits) l l r) → Gives (kind_sheet s h) l l r

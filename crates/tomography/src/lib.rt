@@ -7,7 +7,7 @@ ghost use Rattle.outcome.specs.Outcome.{Gives};
 ghost use Rattle.tomography.specs.Sheet.{kind_sheet, sheet_of, Sheet};
 
 use card_layout::Kind;
-use card_parts::Card;
+use card_parts::{Card, GstRecords};
 use outcome::Answer;
 use refusal::Refusal;
 
@@ -23,9 +23,9 @@ fn run_kind(card: &Card<'_>, res: &mut [u64], work: &mut [f64]) -> Result<Answer
         Ok(Kind::Projected) => sheets::projected_sheet(card.bytes, h.dimension, res, work),
         Ok(Kind::Process) => sheets::process_sheet(card.bytes, h.qubits, res, work),
         Ok(Kind::Physical) => sheets::physical_sheet(card.bytes, h.qubits),
-        Ok(Kind::Fit) => fit_sheets::fit_sheet(card, res),
+        Ok(Kind::Fit) => fit_sheets::fit_sheet(&GstRecords { card: *card }, res),
         Ok(Kind::Model) => sheets::gauge_sheet(card, res, work),
-        Ok(Kind::Diagnostics) => gst_sheets::diagnostics_sheet(card, res),
+        Ok(Kind::Diagnostics) => gst_sheets::diagnostics_sheet(&GstRecords { card: *card }, res),
         Err(_) => unreachable!(),
     }
 }

@@ -14,59 +14,69 @@ use matrix::by_size;
 use refusal::Refusal;
 use sizes::square;
 
-// Vector by vector; the first refusal is the outcome.
-fn vet_each(vectors: &[f64], tolerance: f64, p: usize) -> Result<(), Refusal>
-    requires { (1 ≤ p) × (p ≤ 16) × (2 * (p * p) ≤ length vectors.now) }
-    ensures { result ≡ vetted_of tolerance vectors.now p }
-{
-    for v in vectors[..2 * (p * p)].chunks_exact(p) {
-        pauli::vet(tolerance, v)?;
-    }
-    Ok(())
-}
-
-// The same, by size.
-fn vet_all(vectors: &[f64], tolerance: f64, p: usize) -> Result<(), Refusal>
-    requires { (1 ≤ p) × (p ≤ 16) × (2 * (p * p) ≤ length vectors.now) }
-    ensures { result ≡ vetted_of tolerance vectors.now p }
-{
-    by_size(p, &mut [], |p, _| vet_each(vectors, tolerance, p))
-}
-
-// The inverse of the inputs, where there is one.
-fn invert_inputs(
-    vectors: &[f64],
+// The input vectors and then the output vectors of p probes, and the tolerance of their tests.
+#[derive(Clone, Copy)]
+struct Probes<'a> {
+    vectors: &'a [f64],
     tolerance: f64,
     p: usize,
-    inverse: &mut [f64],
-) -> Result<(), Singular>
-    requires { (p ≤ 16) × (2 * (p * p) ≤ length vectors.now) × (p * p ≤ length inverse.old) }
-    ensures { (is_ok result ≡ invertible p tolerance (inputs_of vectors.now p)) × (inverse.new ≡ over (inverse_of p tolerance (inputs_of vectors.now p)) inverse.old) }
-{
-    let mut inputs = [0.0; 256];
-    matrix::transpose(vectors, p, &mut inputs);
-    inversion::invert(&inputs[..p * p], p, tolerance, inverse)
+    ghost some: { 1 ≤ p },
+    ghost few: { p ≤ 16 },
+    ghost whole: { 2 * (p * p) ≤ length vectors.now },
 }
 
-// The outputs times the inverse.
-fn multiply_outputs(vectors: &[f64], p: usize, inverse: &[f64], out: &mut [f64])
-    requires { (p ≤ 16) × (2 * (p * p) ≤ length vectors.now) × (p * p ≤ length inverse.now) × (p * p ≤ length out.old) }
-    ensures { out.new ≡ mat_mul_of p (outputs_of vectors.now p) inverse.now ++ drop (p * p) out.old }
-{
-    let mut outputs = [0.0; 256];
-    matrix::transpose(&vectors[p * p..], p, &mut outputs);
-    matrix::mat_mul(&outputs[..p * p], inverse, p, out);
-}
+impl<'a> Probes<'a> {
+    // Vector by vector; the first refusal is the outcome. p comes again, since `by_size` passes it on as a constant.
+    fn vet_each(&self, p: usize) -> Result<(), Refusal>
+        requires { p ≡ self.now.p }
+        ensures { result ≡ vetted_of self.now.tolerance self.now.vectors.now p }
+    {
+        for v in self.vectors[..2 * (p * p)].chunks_exact(p) {
+            pauli::vet(self.tolerance, v)?;
+        }
+        Ok(())
+    }
 
-// The transfer matrix at the front of `out`, once the vectors are good.
-fn solve(vectors: &[f64], tolerance: f64, p: usize, out: &mut [f64]) -> Result<(), Refusal>
-    requires { (p ≤ 16) × (2 * (p * p) ≤ length vectors.now) × (p * p ≤ length out.old) }
-    ensures { (result ≡ solved_of tolerance vectors.now p) × (out.new ≡ over (solved_numbers tolerance vectors.now p) out.old) }
-{
-    let mut inverse = [0.0; 256];
-    invert_inputs(vectors, tolerance, p, &mut inverse).map_err(|_| Refusal::SingularProcessDesign)?;
-    multiply_outputs(vectors, p, &inverse[..p * p], out);
-    refusal::finite_or(Refusal::NonFinite, &out[..p * p])
+    // The same, by size.
+    fn vet(&self) -> Result<(), Refusal>
+        ensures { result ≡ vetted_of self.now.tolerance self.now.vectors.now self.now.p }
+    {
+        by_size(self.p, &mut |p| self.vet_each(p))
+    }
+
+    // The inverse of the inputs, where there is one.
+    fn invert_inputs(&self, inverse: &mut [f64]) -> Result<(), Singular>
+        requires { self.now.p * self.now.p ≤ length inverse.old }
+        ensures { (is_ok result ≡ invertible self.now.p self.now.tolerance (inputs_of self.now.vectors.now self.now.p)) × (inverse.new ≡ over (inverse_of self.now.p self.now.tolerance (inputs_of self.now.vectors.now self.now.p)) inverse.old) }
+    {
+        let mut inputs = [0.0; 256];
+        matrix::transpose(self.vectors, self.p, &mut inputs);
+        inversion::invert(&inputs[..self.p * self.p], self.p, self.tolerance, inverse)
+    }
+
+    // The outputs times the inverse.
+    fn multiply_outputs(&self, inverse: &[f64], out: &mut [f64])
+        requires { (self.now.p * self.now.p ≤ length inverse.now) × (self.now.p * self.now.p ≤ length out.old) }
+        ensures { out.new ≡ mat_mul_of self.now.p (outputs_of self.now.vectors.now self.now.p) inverse.now ++ drop (self.now.p * self.now.p) out.old }
+    {
+        let m = self.p * self.p;
+        let mut outputs = [0.0; 256];
+        matrix::transpose(&self.vectors[m..], self.p, &mut outputs);
+        matrix::mat_mul(&outputs[..m], inverse, self.p, out);
+    }
+
+    // The transfer matrix at the front of `out`, once the vectors are good.
+    fn solve(&self, out: &mut [f64]) -> Result<(), Refusal>
+        requires { self.now.p * self.now.p ≤ length out.old }
+        ensures { (result ≡ solved_of self.now.tolerance self.now.vectors.now self.now.p) × (out.new ≡ over (solved_numbers self.now.tolerance self.now.vectors.now self.now.p) out.old) }
+    {
+        let m = self.p * self.p;
+        let mut inverse = [0.0; 256];
+        self.invert_inputs(&mut inverse)
+            .map_err(|_| Refusal::SingularProcessDesign)?;
+        self.multiply_outputs(&inverse[..m], out);
+        refusal::finite_or(Refusal::NonFinite, &out[..m])
+    }
 }
 
 // The Rust's `process_linear_inversion`, on the input vectors and then the output vectors of p = 4^n probes. A good call leaves the transfer matrix at the
@@ -83,8 +93,13 @@ pub fn process_linear_inversion(
     if !numbers::is_positive(tolerance) {
         return Err(Refusal::InvalidTolerance);
     }
-    vet_all(vectors, tolerance, p)?;
-    solve(vectors, tolerance, p, out)
+    let probes = Probes {
+        vectors,
+        tolerance,
+        p,
+    };
+    probes.vet()?;
+    probes.solve(out)
 }
 
 // The Rust's `PauliTransferMatrix::try_new` and `apply_expectations`: the matrix is tested before the expectations. A good call leaves the expectations

@@ -9,7 +9,7 @@ returns-in-Err g c =
 
 pub probabilities_under-requires : goal.probabilities_under-requires
 probabilities_under-requires g c =
-    let s = c.args.c.now.card.now in
+    let s = c.args.c.now.records.now.card in
     let kept = c.requires.3 in
     (omega arith, (s.shaped.limits.dimension, s.shaped.limits.effects, c.requires.2, λ k h. vectors-in s.header _ (kept k h).0, λ k h. gates-lie _ _ _ _ _ _ (kept k h).1 (sym c.in_default.ensures)))
 

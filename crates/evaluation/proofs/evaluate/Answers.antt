@@ -11,4 +11,4 @@ returns-then-not-all_finite c = no _ (sym c.all_finite.ensures ∙ c.if-not-all_
 pub returns : goal.returns
 returns c =
     let t = c.args.t.now in
-    evaluate-by t.card.now.bytes.now t.card.now.header t.places.now t.config c.args.xs.now _ _ _ (sym c.all_finite.ensures ∙ c.if-not-all_finite.false) refl c.likelihood_at.ensures.1 c.score.ensures
+    evaluate-by t.records.now.card.bytes.now t.records.now.card.header t.places.now t.config c.args.xs.now _ _ _ (sym c.all_finite.ensures ∙ c.if-not-all_finite.false) refl c.likelihood_at.ensures.1 c.score.ensures

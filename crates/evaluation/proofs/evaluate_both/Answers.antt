@@ -9,5 +9,5 @@ returns-then-all_finite-2 c =
     let t = c.args.t.now in
     let b = c.likelihoods_at.ensures in
     ap₂ (λ (r l : Evaluated). r ∷ (l ∷ []))
-    (evaluate-by t.card.now.bytes.now t.card.now.header t.places.now t.config c.args.xs.now _ _ _ (sym c.all_finite.ensures ∙ c.if-all_finite.true) refl (first_of_two _ _ _ _ b) c.score.ensures)
-    (evaluate-by t.card.now.bytes.now t.card.now.header t.places.now t.config c.args.ys.now _ _ _ (sym c.all_finite-then-all_finite.ensures ∙ c.if-all_finite-2.true) refl (second_of_two _ _ _ _ b) c.score-then-all_finite-2.ensures)
+    (evaluate-by t.records.now.card.bytes.now t.records.now.card.header t.places.now t.config c.args.xs.now _ _ _ (sym c.all_finite.ensures ∙ c.if-all_finite.true) refl (first_of_two _ _ _ _ b) c.score.ensures)
+    (evaluate-by t.records.now.card.bytes.now t.records.now.card.header t.places.now t.config c.args.ys.now _ _ _ (sym c.all_finite-then-all_finite.ensures ∙ c.if-all_finite-2.true) refl (second_of_two _ _ _ _ b) c.score-then-all_finite-2.ensures)

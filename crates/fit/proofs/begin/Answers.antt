@@ -19,9 +19,10 @@ use Rattle.fit.proofs.begin.Goals as goal
 pub returns : goal.returns
 returns c =
     let a = c.args in
-    let s = a.card.now.bytes.now in
-    let h = a.card.now.header in
+    let k = a.records.now.card in
+    let s = k.bytes.now in
+    let h = k.header in
     let n = c.model_numbers-n in
     let m : c.load.new.out ≡ numbers_of s h = c.load.ensures ∙ whole-over (numbers_of s h) _ (omega (arith, length-model s h, length-take-le n.result a.model.now (search rules), n.ensures.0)) in
-    let len : length a.anchor.now ≡ length a.places.now = c.requires.3 in
+    let len : length a.anchor.now ≡ length a.places.now = c.requires.2 in
     (c.fit_diagnostics.ensures.0 ∙ ap (λ (m : List Float). likelihood_of true a.tolerance s h m) m, c.gather.ensures ∙ ap (λ (n : ℕ). build n (λ k. at c.load.new.out (get_or a.places.now k 0))) len ∙ build-map (at c.load.new.out) 0 nan a.places.now ∙ ap (λ (m : List Float). map (at m) a.places.now) m)

@@ -19,20 +19,20 @@ use Rattle.fit.proofs.reconstruct_gate_set.Goals as goal
 
 pub config_of-config-requires : goal.config_of-config-requires
 config_of-config-requires c =
-    let k = c.args.card.now in
+    let k = c.args.records.now.card in
     controls-in k.bytes.now k.header k.shaped c.requires.0
 
 pub begin-requires : goal.begin-requires
 begin-requires c =
-    let k = c.args.card.now in
+    let k = c.args.records.now.card in
     let s = k.bytes.now in
     let e = front-again (places_of s k.header) (drop (length (places_of s k.header)) _) c.load_places.ensures (length-places s k.header) in
-    let p = placed_by s k.header k.shaped c.requires.0 c.requires.1 c.requires.2 c.requires.3 _ e in
-    (omega (arith, c.requires.0), c.requires.2, p.inside, search rules, c.requires.6)
+    let p = placed_by s k.header c.requires.0 c.requires.1 c.requires.2 _ e in
+    (omega (arith, c.requires.0), p.inside, search rules, c.requires.5)
 
 pub returns-in_err-d : goal.returns-in_err-d
 returns-in_err-d c =
-    let k = c.args.card.now in
+    let k = c.args.records.now.card in
     let s = k.bytes.now in
     let q = err_from_is_err_and c.from_residual.result c.from_residual.ensures.1 in
     rw (q.1, q.2)
@@ -41,17 +41,17 @@ returns-in_err-d c =
 
 pub invariant_of-task : goal.invariant_of-task
 invariant_of-task c =
-    let k = c.args.card.now in
+    let k = c.args.records.now.card in
     let s = k.bytes.now in
     let e = front-again (places_of s k.header) (drop (length (places_of s k.header)) _) c.load_places.ensures (length-places s k.header) in
     record {
-      placed = placed_by s k.header k.shaped c.requires.0 c.requires.1 c.requires.2 c.requires.3 _ e;
+      placed = placed_by s k.header c.requires.0 c.requires.1 c.requires.2 _ e;
       anchored = front-is k.header.coordinates c.begin.new.anchor _ _ c.begin.ensures.1 (length-map _ _ ∙ ap length e ∙ length-places s k.header);
     }
 
 pub returns : goal.returns
 returns c =
-    let k = c.args.card.now in
+    let k = c.args.records.now.card in
     let s = k.bytes.now in
     let e = front-again (places_of s k.header) (drop (length (places_of s k.header)) _) c.load_places.ensures (length-places s k.header) in
     c.fit_from.ensures ∙ ap (λ (J : Job). fit_of J) (job-by s k.header _ _ e c.config_of-config.ensures)

@@ -7,7 +7,7 @@ use Rattle.fit_sheets.proofs.fit_sheet.Goals as goal
 
 pub check_request-requires : goal.check_request-requires
 check_request-requires c =
-    let k = c.args.card.now in
+    let k = c.args.records.now.card in
     controls-in k.bytes.now k.header k.shaped c.requires.0.kind
 
 pub returns-in_err-check : goal.returns-in_err-check

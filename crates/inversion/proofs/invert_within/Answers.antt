@@ -21,11 +21,11 @@ unfolding of_bits
 returns-in_err-reduce c =
     let a = c.args in
     let q = err_from_is_err_and c.from_residual.result c.from_residual.ensures.1 in
-    rw q.1 (none_found a.n a.threshold a.a.now _ _ a.out.now (all-reduced _ a.threshold _ _ c.scale_of-scale.ensures false _ _ c.if-scale.false (ap not (sym c.is_finite.ensures ∙ c.if-not-is_finite.false)) c.in_err-reduce.ensures))
+    rw q.1 (none_found a.n a.threshold a.a.now _ _ a.out.now (all-reduced _ a.threshold _ _ c.scale_of-scale.ensures false _ _ c.if-scale.false (ap not (sym c.is_finite.ensures ∙ c.if-not-is_finite.false)) c.in_err-reduce.ensures.1))
 
 pub returns : goal.returns
 unfolding of_bits
 returns c =
     let a = c.args in
-    let s = all-reduced _ a.threshold _ _ c.scale_of-scale.ensures true _ _ c.if-scale.false (ap not (sym c.is_finite.ensures ∙ c.if-not-is_finite.false)) c.in_ok-reduce.ensures in
-    one_found a.n a.threshold a.a.now _ _ a.out.now _ s c.right_halves.ensures
+    let s = all-reduced _ a.threshold _ _ c.scale_of-scale.ensures true _ _ c.if-scale.false (ap not (sym c.is_finite.ensures ∙ c.if-not-is_finite.false)) c.in_ok-reduce.ensures.1 in
+    one_found a.n a.threshold a.a.now _ _ a.out.now _ s (rw c.in_ok-reduce.ensures.0 at c.right_half.ensures)

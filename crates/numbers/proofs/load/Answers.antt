@@ -1,13 +1,16 @@
-use mathlib.Core.Path.{◌≡◌, ap, ◌∙◌}
-use mathlib.Core.List.{◌++◌}
-use Prim.Native.Nat.{ℕ, ◌/◌, ◌*◌}
+use mathlib.Core.Path.{ap, ◌∙◌}
 use native.Mathlib.Omega.{arith}
-use lib.ListN.{drop}
+use Rattle.lists.proofs.Filling.{fill_none, fill_more, fill-front}
+use Rattle.numbers.specs.Number.{number}
 use Rattle.numbers.specs.Slice.{numbers_at}
 use Rattle.numbers.proofs.load.Goals as goal
 
-pub returns-then-n-eq0 : goal.returns-then-n-eq0
-returns-then-n-eq0 c =
-    let z = c.args in
-    let h : z.n / 4 * 4 ≡ z.n = omega (arith, c.if-n-eq0.true) in
-    c.load_fours.ensures ∙ ap (λ (k : ℕ). numbers_at z.card.now z.from k ++ drop k z.out.now) h
+pub loop-i-init : goal.loop-i-init
+loop-i-init c = fill_none _ _
+
+pub loop-i-preserved : goal.loop-i-preserved
+loop-i-preserved c = fill_more _ _ _ _ _ (omega arith) c.loop-i.invariant (c.number_of.ensures ∙ ap number c.word_at.ensures)
+
+pub returns : goal.returns
+unfolding numbers_at
+returns c = fill-front _ _ _ c.loop-i.i _ (omega arith) (omega arith) c.loop-i.invariant

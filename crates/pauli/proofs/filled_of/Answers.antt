@@ -11,7 +11,7 @@ loop-init c = simp unary_clauses (going-none _ _ _)
 pub loop-preserved : goal.loop-preserved
 loop-preserved c =
     let l = c.loop in
-    going_more _ _ _ l.column l.power l.place l.c l.x l.counter _ _ _ c.loop-test.true c.last-axis.ensures c.flipped.ensures.0 c.flipped.ensures.1 c.turned.ensures.0 l.invariant
+    going_more _ _ _ l.column l.power l.place l.c l.x l.counter _ _ _ c.loop-test.true c.last.ensures c.filled-f.ensures.0 c.filled-f.ensures.2 c.filled-f.ensures.1 l.invariant
 
 pub returns : goal.returns
 returns c =
