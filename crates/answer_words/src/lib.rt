@@ -42,6 +42,7 @@ fn told_words(a: Answer) -> [u64; 5]
     }
 }
 
+// A function that puts any `Result` of five words, called with `.map(..)` by the two below, is two lines shorter, and its contract takes two definitions more.
 fn put_refusal(r: Refusal, out: &mut [u64]) -> u64
     requires { 5 ≤ length out.old }
     ensures { (result ≡ code_of r) × (out.new ≡ over (refusal_words r) out.old) }

@@ -5,7 +5,7 @@ use Prim.Native.Nat.{ℕ, zero, suc, ◌+◌, ◌*◌, ◌^◌, ◌<◌, ◌≤�
 use native.Mathlib.Nat.{le_trans, le_of_eq, le_of_lt, lt_of_lt_of_le, zero-mul, mul-one, one-mul, mul_comm, mul_assoc, mul_right_comm, mul-mul-mul_comm, mul-pos, mul-le-mul_left, mul-le-mul_right, le_of_mul-le-mul_right, zero-lt-suc}
 use native.Mathlib.Omega.{arith}
 use lib.IntN.{ℤ, pos, negsuc}
-use lib.Dec.{T, ltb, lit<, lit≤}
+use lib.Dec.{T, leb, ltb, lit<, lit≤}
 use lib.Pow.{pow_pos}
 use lib.Ieee.{Float, nan, inf, fin, binary64, up, down, size, odd, units, round, mul, fits, le, lt, eq, is_nan, of_bits}
 use lib.Ieee.Bits.{is_true}
@@ -58,69 +58,38 @@ sides (fin s m e) (fin t n d) = go (ltb (m * up e * down d) (n * up d * down e))
 
 -- ---- one factor
 
--- the numbers 1, c = p / r, its square, and one more than that; and k, of K units, whose square is that at least
+-- a / b is a number, exactly
+record Quotient (a b : ℕ) : Type 0 where
+  count : ℕ
+  power : ℤ
+  is : round binary64 false a b ≡ fin false count power
+  value : HasValue (fin false count power) false a b
+
+quotient : {a b : ℕ} (m : ℕ) (e : ℤ) → round binary64 false a b ≡ fin false m e → HasValue (fin false m e) false a b → Quotient a b
+quotient m e i v = record { count = m; power = e; is = i; value = v }
+
+-- the numbers c = p / r, its square, and one more than that; and k, of K units, whose square is that at least
 record Factor (p r K : ℕ) (k : Float) : Type 0 where
-  part : ℕ
-  low : ℤ
-  is : round binary64 false p r ≡ fin false part low
-  value : HasValue (fin false part low) false p r
-  square : ℕ
-  lower : ℤ
-  square-is : round binary64 false (p * p) (r * r) ≡ fin false square lower
-  square-value : HasValue (fin false square lower) false (p * p) (r * r)
-  more : ℕ
-  lowest : ℤ
-  more-is : round binary64 false (r * r + p * p) (r * r) ≡ fin false more lowest
-  more-value : HasValue (fin false more lowest) false (r * r + p * p) (r * r)
+  part : Quotient p r
+  square : Quotient (p * p) (r * r)
+  more : Quotient (r * r + p * p) (r * r)
   positive : 0 < r
   k-fits : T (fits binary64 k)
   k-finite : finite k ≡ true
   k-value : HasValue k false K units_in_one
   enough : (r * r + p * p) * units_in_one * units_in_one ≤ K * K * (r * r)
 
+factor : (p r K : ℕ) (k : Float) → Quotient p r → Quotient (p * p) (r * r) → Quotient (r * r + p * p) (r * r) → T (ltb 0 r) → T (fits binary64 k) → finite k ≡ true → HasValue k false K units_in_one
+    → T (leb ((r * r + p * p) * units_in_one * units_in_one) (K * K * (r * r))) → Factor p r K k
+factor p r K k c s m o f g v e = record { part = c; square = s; more = m; positive = lit< o; k-fits = f; k-finite = g; k-value = v; enough = lit≤ e }
+
 whole : Factor 1 1 (23 * 2 ^ 1070) far_f
 unfolding round size units odd of_bits fits finite
-whole = record {
-  part = 1;
-  low = pos 0;
-  is = refl;
-  value = (refl, refl);
-  square = 1;
-  lower = pos 0;
-  square-is = refl;
-  square-value = (refl, refl);
-  more = 1;
-  lowest = pos 1;
-  more-is = refl;
-  more-value = (refl, refl);
-  positive = lit< tt;
-  k-fits = tt;
-  k-finite = refl;
-  k-value = (refl, refl);
-  enough = lit≤ tt;
-}
+whole = factor 1 1 (23 * 2 ^ 1070) far_f (quotient 1 (pos 0) refl (refl, refl)) (quotient 1 (pos 0) refl (refl, refl)) (quotient 1 (pos 1) refl (refl, refl)) tt tt refl (refl, refl) tt
 
 half : Factor 1 2 (9 * 2 ^ 1071) near_f
 unfolding round size units odd of_bits fits finite
-half = record {
-  part = 1;
-  low = negsuc 0;
-  is = refl;
-  value = (refl, refl);
-  square = 1;
-  lower = negsuc 1;
-  square-is = refl;
-  square-value = (refl, refl);
-  more = 5;
-  lowest = negsuc 1;
-  more-is = refl;
-  more-value = (refl, refl);
-  positive = lit< tt;
-  k-fits = tt;
-  k-finite = refl;
-  k-value = (refl, refl);
-  enough = lit≤ tt;
-}
+half = factor 1 2 (9 * 2 ^ 1071) near_f (quotient 1 (negsuc 0) refl (refl, refl)) (quotient 1 (negsuc 1) refl (refl, refl)) (quotient 5 (negsuc 1) refl (refl, refl)) tt tt refl (refl, refl) tt
 
 -- 1 is any r / r
 one_below : (r : ℕ) → Below one_f r r
@@ -137,17 +106,17 @@ module _ {p r K : ℕ} {k : Float} (f : Factor p r K k) (m : ℕ) (e : ℤ) (n :
 
   ratio : Below (S /ᶠ M) p r
   ratio =
-      div_below S M (n * up d) (down d) (suc m * up e) (down e) p r f.part f.low (down_pos d) (down_pos e) (mul-pos (zero-lt-suc m) (up_pos e)) f.positive (refl, refl) (refl, refl) f.value f.is h
+      div_below S M (n * up d) (down d) (suc m * up e) (down e) p r f.part.count f.part.power (down_pos d) (down_pos e) (mul-pos (zero-lt-suc m) (up_pos e)) f.positive (refl, refl) (refl, refl) f.part.value f.part.is h
 
   squared : Below ((S /ᶠ M) *ᶠ (S /ᶠ M)) (p * p) (r * r)
-  squared = mul-below f.square f.lower ratio ratio (mul-pos f.positive f.positive) f.square-value f.square-is
+  squared = mul-below f.square.count f.square.power ratio ratio (mul-pos f.positive f.positive) f.square.value f.square.is
 
   abbrev X : Float
   X = one_f +ᶠ (S /ᶠ M) *ᶠ (S /ᶠ M)
 
   below : Below X (r * r + p * p) (r * r)
   unfolding one_below
-  below = add-below f.more f.lowest (one_below (r * r)) squared (pow_pos 1074) (mul-pos f.positive f.positive) f.more-value f.more-is
+  below = add-below f.more.count f.more.power (one_below (r * r)) squared (pow_pos 1074) (mul-pos f.positive f.positive) f.more.value f.more.is
 
   -- X is 1 at least
   some-units : 0 < below.count

@@ -1,6 +1,6 @@
 -- The outcome, step by step. Assumes nothing.
 use Rattle.std.proofs.Common.{Err, Ok}
-use Rattle.refusal.specs.Verdicts.{good, Verdict, first_of, finite_or}
+use Rattle.refusal.specs.Verdicts.{good, Verdict, first_of, finite_or, tolerance_of}
 use mathlib.Core.Path.{◌≡◌, refl, sym, ◌∙◌, ap}
 use mathlib.Core.Bool.{Bool, true, false}
 use mathlib.Core.List.{List, ◌++◌}
@@ -8,7 +8,6 @@ use Prim.Native.Nat.{ℕ, ◌*◌}
 use lib.ListN.{length, drop}
 use lib.Ieee.{Float}
 use Rattle.lists.specs.Build.{over}
-use Rattle.numbers.specs.Number.{positive}
 use Rattle.lists.proofs.Parts.{over-front}
 use Rattle.complex.specs.declared.Complex.{Complex}
 use Rattle.entries.specs.Entries.{entries, parts_of}
@@ -17,8 +16,8 @@ use Rattle.entries.proofs.Matrices.{length-matrix}
 use Rattle.eigen.specs.Jacobi.{Spectrum, spectrum, unknown, eig_of, told}
 use Rattle.filling.specs.Filling.{filling}
 use Rattle.refusal.specs.declared.Refusal.{Refusal}
-use Rattle.refusal.specs.declared.Refusal.TheVariants.{NonFinite, InvalidTolerance, Operator, EigensolverDidNotConverge}
-use Rattle.refusal.proofs.Verdicts.{never-good, finite-held, finite-refused}
+use Rattle.refusal.specs.declared.Refusal.TheVariants.{NonFinite, Operator, EigensolverDidNotConverge}
+use Rattle.refusal.proofs.Verdicts.{never-good, finite-held, finite-refused, tolerance-last}
 use Rattle.density.specs.Projection.{halved, mixed_at, mixed, spectral_numbers, spectral_verdict, admission, spectrum_of, projected_verdict, where_good, projected_numbers}
 
 -- what is said of a spectrum, and the numbers that are left
@@ -47,17 +46,13 @@ written n s m r out x g t l e =
 -- ---- the tests before it
 
 module _ (t : Float) (e : List Float) where
-  pub not-finite : (r : Refusal) → Err r ≡ finite_or NonFinite e → Err r ≡ admission t e
+  pub not_finite : (r : Refusal) → Err r ≡ finite_or NonFinite e → Err r ≡ admission t e
   unfolding admission
-  not-finite r h = let q = finite-refused NonFinite r e h in rw (q.0, q.1) refl
+  not_finite r h = let q = finite-refused NonFinite r e h in rw (q.0, q.1) refl
 
-  pub not-positive : good ≡ finite_or NonFinite e → positive t ≡ false → Err InvalidTolerance ≡ admission t e
+  pub by_tolerance : (w : Verdict) → good ≡ finite_or NonFinite e → w ≡ tolerance_of t → w ≡ admission t e
   unfolding admission
-  not-positive h p = rw (finite-held NonFinite e h, p) refl
-
-  pub both-admitted : good ≡ finite_or NonFinite e → positive t ≡ true → good ≡ admission t e
-  unfolding admission
-  both-admitted h p = rw (finite-held NonFinite e h, p) refl
+  by_tolerance w h p = rw (finite-held NonFinite e h) (p ∙ tolerance-last t)
 
 module _ (n : ℕ) (tolerance : Float) (rotations : ℕ) (e : List Float) {a : Verdict} (adm : a ≡ admission tolerance e) where
   pub not-admitted : (x : Refusal) (out : List Float) → a ≡ Err x → (Err x ≡ projected_verdict n tolerance rotations e) × (out ≡ over (projected_numbers n tolerance rotations e) out)

@@ -112,14 +112,12 @@ fn project(
 }
 
 // Tests estimate and tolerance.
+#[tactic(auto, using(refusal::proofs::Verdicts::passed_on, crate::proofs::Outcome::not_finite, crate::proofs::Outcome::by_tolerance))]
 fn admit(tolerance: f64, e: &[f64]) -> Result<(), Refusal>
     ensures { result ≡ spec.admission tolerance e.now }
 {
     refusal::finite_or(Refusal::NonFinite, e)?;
-    if !numbers::is_positive(tolerance) {
-        return Err(Refusal::InvalidTolerance);
-    }
-    Ok(())
+    refusal::check_tolerance(tolerance)
 }
 
 // The Rust's `project_density_with_tolerance`, with a limit on the rotations of `eig`. A good call leaves the density matrix at the front of `out`, real and

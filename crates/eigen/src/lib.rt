@@ -1,4 +1,5 @@
-// Eigenvalues and eigenvectors of a Hermitian matrix by classical Jacobi.
+// Eigenvalues and eigenvectors of a Hermitian matrix by classical Jacobi. The tolerance and the most rotations are two numbers of a card that owe one another nothing,
+// and go through as they are.
 #![tactic(auto, using(lists::proofs::Folding::fold_more), unfolding(lists::specs::Fold::fold, entries::specs::Laid::laid_row, crate::specs::Jacobi::unit_at, crate::specs::Jacobi::ran))]
 
 ghost use Rattle.std.specs.Prelude.{◌≡◌, ℕ, ◌*◌, ◌≤◌, ◌<◌, length, get_or, is_ok};

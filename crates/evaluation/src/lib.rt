@@ -47,8 +47,8 @@ pub fn likelihood_at(
     )
 }
 
-// The coordinates xs evaluated. The deviance, which no objective has, is left out. The room is two slices: each function that takes a struct which lends
-// both would have to say that its fields keep their references and their lengths.
+// The coordinates xs evaluated. The deviance, which no objective has, is left out. The room is two slices: lent in one struct, `likelihood_at` and fit's, which
+// promise the model's numbers in the slice that they were lent, would have to say that the struct keeps its references.
 pub fn evaluate(
     t: &Task<'_>,
     xs: &[f64],

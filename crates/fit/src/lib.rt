@@ -8,7 +8,7 @@ ghost use Rattle.diagnostics.specs.Diagnostics.{likelihood_of, Roomy};
 ghost use Rattle.descent.specs.Fit as spec;
 ghost use Rattle.parameters.specs.Parameters.{config_of, places_of};
 ghost use Rattle.objective.specs.Tasks.{job_in, RoomFor};
-ghost use Rattle.steps.specs.Running.{point_of, state_of, keeps_norm, Normed, Underway};
+ghost use Rattle.steps.specs.Running.{keeps_norm, Normed, Underway};
 ghost use Rattle.fit.specs.Outcome.{job_of, shown_of, outcome_of};
 
 use card_parts::GstRecords;
@@ -59,87 +59,82 @@ fn diagnostics_in(l: Result<Diagnostics, Unfit>) -> Diagnostics
     })
 }
 
-// The sheet of a fit that stops at r, where the gradient's norm is z; its model is left at the front of `model`. The counts have room for a step more,
-// which a step uses up: so `Underway` is no fact of every `Running`.
-fn show(
-    t: &Task<'_>,
+// A fit of a task from a model with the diagnostics `initial`, which is to end at `at`. The counts have room for a step more, which a step uses up: so `Underway`
+// is no fact of every `Running`.
+#[derive(Clone, Copy)]
+struct Ending<'a> {
+    task: &'a Task<'a>,
     initial: Diagnostics,
-    stop: GstTermination,
-    z: f64,
-    r: &Running,
-    model: &mut [f64],
-    columns: &mut [f64],
-) -> Shown
-    requires { Underway r.now × RoomFor t.now model.old columns.old }
-    ensures { (take (model_numbers t.now.records.now.card.header) model.new ≡ spec.model_of (job_in t.now) (take (length t.now.places.now) r.now.coordinates))
-        × (result ≡ shown_of (job_in t.now) initial stop z (point_of (length t.now.places.now) r.now)) }
-{
-    let p = t.places.len();
-    let l = likelihood_at(t, &r.coordinates[..p], true, model, columns);
-    Shown {
-        stop,
-        steps: r.steps,
-        evaluations: r.evaluations + 2 * (p as u64),
-        initial,
-        final_fit: diagnostics_in(l),
-        objective: r.objective,
-        norm: z,
+    at: &'a Running,
+    ghost underway: { Underway at.now },
+}
+
+impl Ending<'_> {
+    ghost use Rattle.fit.specs.Ends.{job_at, point_at, state_at};
+
+    // The sheet of the fit that stops here, where the gradient's norm is z; its model is left at the front of `model`.
+    fn show(&self, stop: GstTermination, z: f64, model: &mut [f64], columns: &mut [f64]) -> Shown
+        requires { RoomFor self.now.task.now model.old columns.old }
+        ensures { (take (model_numbers self.now.task.now.records.now.card.header) model.new ≡ spec.model_of (job_at self.now) (point_at self.now).coordinates)
+            × (result ≡ shown_of (job_at self.now) self.now.initial stop z (point_at self.now)) }
+    {
+        let r = self.at;
+        let p = self.task.places.len();
+        let l = likelihood_at(self.task, &r.coordinates[..p], true, model, columns);
+        Shown {
+            stop,
+            steps: r.steps,
+            evaluations: r.evaluations + 2 * (p as u64),
+            initial: self.initial,
+            final_fit: diagnostics_in(l),
+            objective: r.objective,
+            norm: z,
+        }
     }
-}
 
-// The final gradient, and the sheet.
-fn close(
-    t: &Task<'_>,
-    initial: Diagnostics,
-    stop: GstTermination,
-    r: &Running,
-    model: &mut [f64],
-    columns: &mut [f64],
-) -> Result<Shown, Refusal>
-    requires { Underway r.now × RoomFor t.now model.old columns.old }
-    ensures { outcome_of result (take (model_numbers t.now.records.now.card.header) model.new) ≡ spec.closed (job_in t.now) initial stop (point_of (length t.now.places.now) r.now) }
-{
-    let mut g = [0.0; 64];
-    let z = slope_at(t, r, &mut g, model, columns)?;
-    let k = reason(stop, z <= t.config.gradient_tolerance);
-    Ok(show(t, initial, k, z, r, model, columns))
-}
-
-// The same, where the last gradient may be the final one: then it is not worked out again.
-fn stop_at(
-    t: &Task<'_>,
-    initial: Diagnostics,
-    k: GstTermination,
-    r: &Running,
-    model: &mut [f64],
-    columns: &mut [f64],
-) -> Result<Shown, Refusal>
-    requires { Underway r.now × Normed (job_in t.now) (point_of (length t.now.places.now) r.now) r.now.norm (Some k)
-        × RoomFor t.now model.old columns.old }
-    ensures { outcome_of result (take (model_numbers t.now.records.now.card.header) model.new) ≡ spec.closed (job_in t.now) initial k (point_of (length t.now.places.now) r.now) }
-{
-    if keeps_norm(k) {
-        return Ok(show(t, initial, k, r.norm, r, model, columns));
+    // The final gradient, and the sheet.
+    fn close(
+        &self,
+        stop: GstTermination,
+        model: &mut [f64],
+        columns: &mut [f64],
+    ) -> Result<Shown, Refusal>
+        requires { RoomFor self.now.task.now model.old columns.old }
+        ensures { outcome_of result (take (model_numbers self.now.task.now.records.now.card.header) model.new) ≡ spec.closed (job_at self.now) self.now.initial stop (point_at self.now) }
+    {
+        let mut g = [0.0; 64];
+        let z = slope_at(self.task, self.at, &mut g, model, columns)?;
+        let k = reason(stop, z <= self.task.config.gradient_tolerance);
+        Ok(self.show(k, z, model, columns))
     }
-    close(t, initial, k, r, model, columns)
-}
 
-// The end of a fit that has stopped, or has reached the limit.
-fn finish(
-    t: &Task<'_>,
-    initial: Diagnostics,
-    r: &Running,
-    model: &mut [f64],
-    columns: &mut [f64],
-) -> Result<Shown, Refusal>
-    requires { Underway r.now × Normed (job_in t.now) (point_of (length t.now.places.now) r.now) r.now.norm r.now.stop
-        × RoomFor t.now model.old columns.old }
-    ensures { outcome_of result (take (model_numbers t.now.records.now.card.header) model.new) ≡ spec.finished (job_in t.now) initial (state_of (length t.now.places.now) r.now) }
-{
-    let limit = GstTermination::MaximumIterations;
-    match r.stop {
-        None => close(t, initial, limit, r, model, columns),
-        Some(k) => stop_at(t, initial, k, r, model, columns),
+    // The same, where the last gradient may be the final one: then it is not worked out again.
+    fn stop_at(
+        &self,
+        k: GstTermination,
+        model: &mut [f64],
+        columns: &mut [f64],
+    ) -> Result<Shown, Refusal>
+        requires { Normed (job_at self.now) (point_at self.now) self.now.at.now.norm (Some k)
+            × RoomFor self.now.task.now model.old columns.old }
+        ensures { outcome_of result (take (model_numbers self.now.task.now.records.now.card.header) model.new) ≡ spec.closed (job_at self.now) self.now.initial k (point_at self.now) }
+    {
+        if keeps_norm(k) {
+            return Ok(self.show(k, self.at.norm, model, columns));
+        }
+        self.close(k, model, columns)
+    }
+
+    // The end of the fit that has stopped, or has reached the limit.
+    fn finish(&self, model: &mut [f64], columns: &mut [f64]) -> Result<Shown, Refusal>
+        requires { Normed (job_at self.now) (point_at self.now) self.now.at.now.norm self.now.at.now.stop
+            × RoomFor self.now.task.now model.old columns.old }
+        ensures { outcome_of result (take (model_numbers self.now.task.now.records.now.card.header) model.new) ≡ spec.finished (job_at self.now) self.now.initial (state_at self.now) }
+    {
+        match self.at.stop {
+            None => self.close(GstTermination::MaximumIterations, model, columns),
+            Some(k) => self.stop_at(k, model, columns),
+        }
     }
 }
 
@@ -166,7 +161,12 @@ fn fit_from(
         stop: None,
     };
     let r = run(limited, start, model, columns)?;
-    finish(t, d, &r, model, columns)
+    let ending = Ending {
+        task: t,
+        initial: d,
+        at: &r,
+    };
+    ending.finish(model, columns)
 }
 
 // The likelihood of the card's model, and its numbers at the coordinates' entries.

@@ -36,7 +36,8 @@ pub fn gates_by_columns(model: &[f64], d: usize, e: usize, gates: usize, out: &m
     }
 }
 
-// A model: its numbers, and its gates by columns.
+// A model: its numbers, and its gates by columns. How many numbers a state has and how many effects there are stand beside it: they are the same for all models of a
+// call, and `by_size` passes the first on as a constant.
 #[derive(Clone, Copy)]
 pub struct Model<'a> {
     pub numbers: &'a [f64],

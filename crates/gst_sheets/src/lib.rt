@@ -25,7 +25,7 @@ fn diagnose(records: &GstRecords<'_>, tolerance: f64) -> Result<Diagnostics, Unf
     diagnostics::fit_diagnostics(records, &model[..n], true, tolerance, &mut columns)
 }
 
-#[tactic(auto, using(outcome::proofs::Outcomes::stays, outcome::proofs::Outcomes::same_outcome), unfolding(crate::specs::Sheets::tolerance_sheet))]
+#[tactic(auto, using(outcome::proofs::Outcomes::stays, outcome::proofs::Outcomes::same_outcome), unfolding(crate::specs::Sheets::tolerance_sheet, refusal::specs::Verdicts::tolerance_of))]
 fn tolerance_sheet(
     records: &GstRecords<'_>,
     tolerance: f64,
@@ -34,9 +34,7 @@ fn tolerance_sheet(
     requires { (5 ≤ records.now.card.header.kind) × (2 ≤ length res.old) }
     ensures { Gives (tolerance_sheet records.now.card.bytes.now records.now.card.header tolerance) res.old res.new result }
 {
-    if !numbers::is_positive(tolerance) {
-        return Err(Refusal::InvalidTolerance);
-    }
+    refusal::check_tolerance(tolerance)?;
     let d = diagnose(records, tolerance)?;
     res[..2].copy_from_slice(&[word_of(d.log_likelihood), word_of(d.deviance)]);
     Ok(Answer::Diagnostics)

@@ -1,6 +1,6 @@
 -- What the code holds of a matrix while it is reduced.
 use Rattle.std.specs.Prelude.{ℕ, ◌≡◌, Bool}
-use Rattle.inversion.specs.declared.kept.Kept.{Kept}
+use Rattle.inversion.specs.declared.Kept.{Kept}
 use Rattle.inversion.specs.Inversion.{Reduction}
 use Rattle.inversion.specs.Kept.{Stands}
 

@@ -6,11 +6,7 @@ ghost use Rattle.lists.specs.Build.{build, over};
 ghost use Rattle.lists.specs.Fold.{fold};
 ghost use Rattle.inversion.specs.Inversion.{beside_identity, Reduction, rows, column_reduced, invertible, inverse_of};
 ghost use Rattle.inversion.specs.Kept.{start_at, start_rows, relabelled, kept_right};
-ghost use Rattle.inversion.specs.Held.{Held};
 
-mod kept;
-
-use kept::Kept;
 use matrix::{by_size, row};
 
 // A pivot is too small beside the largest size.
@@ -93,7 +89,20 @@ fn right_halves_of(work: &[f64], places: &[usize], n: usize, out: &mut [f64])
     }
 }
 
+// The kept rows of an n by n matrix, and the places of the columns of its right half.
+#[derive(Drop)]
+struct Kept<'a> {
+    rows: &'a mut [f64],
+    places: &'a mut [usize],
+    n: usize,
+    ghost few: { n ≤ 16 },
+    ghost whole: { length rows.now ≡ n * (2 * n + 2) },
+    ghost placed: { length places.now ≡ n },
+}
+
 impl Kept<'_> {
+    ghost use Rattle.inversion.specs.Held.{Held};
+
     // Clears column k, unless the reduction ends here.
     fn reduce_column(&mut self, k: usize, limit: f64) -> Result<(), Singular>
         requires { k < self.old.n }

@@ -152,6 +152,7 @@ pub fn normalized_choi(
     in_room(res, work, |res, work| choi_matrix(n, values, res, work))
 }
 
+// The arguments come one by one, as C passes them: see `sequences::check`.
 fn sequence_outcome<'a>(
     d: u64,
     effects: u64,

@@ -124,6 +124,7 @@ fn with_terms(
     ensures { result ≡ spec.with_terms (spec.log_in w.now.tables.now) w.now.deviance t counts.now ps.now d }
 {
     let mut sum = d;
+    // By an index, as the definition: over a `zip` three of the four answers have to say which pair an item is.
     for (k, c) in counts.iter().enumerate() {
         let seen = std::num::nearest_u64_to_f64(*c);
         sum = with_term(w, t, seen, ps[k].clamp(0.0, 1.0), sum)?;

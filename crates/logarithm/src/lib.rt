@@ -1,10 +1,12 @@
 // The natural logarithm of a number, in the steps of document 01 over two tables.
 #![tactic(auto)]
 
-ghost use Rattle.std.specs.Prelude.{◌≡◌, ◌^◌, ◌<◌, ◌≤◌};
+ghost use Rattle.std.specs.Prelude.{◌≡◌};
 ghost use Rattle.numbers.specs.Slice.{at};
 ghost use Rattle.logarithm.specs.Steps.{ln_of, ln_by, ln};
 ghost use Rattle.logarithm.specs.Error.{Tabled, LnError};
+
+use significand::Parts;
 
 const QUOTIENTS: [f64; 257] = [
     0.0,
@@ -555,15 +557,15 @@ impl LnTables {
     }
 }
 
-// ln of m · 2^(n - 1126), for an m of 53 digits: document 01's M is m, and its e is n - 1074.
-fn ln_of<'a>(quotients: &'a [f64; 257], remainders: &'a [f64; 257], m: u64, n: u64) -> f64
-    requires { (2 ^ 52 ≤ m) × (m < 2 ^ 53) × (n ≤ 2097) }
-    ensures { result ≡ ln_of (at quotients.now) (at remainders.now) m n }
+// ln of M · 2^(e - 52), document 01's M and e: the significand, and the exponent less 1074.
+fn ln_of<'a>(quotients: &'a [f64; 257], remainders: &'a [f64; 257], parts: Parts) -> f64
+    ensures { result ≡ ln_of (at quotients.now) (at remainders.now) parts.significand parts.exponent }
 {
+    let m = parts.significand;
     let j = (m / 17592186044416 - 256) as usize;
     let l = (m % 17592186044416) as f64;
     let c = (m / 17592186044416) as f64;
-    let e = n as f64 - 1074.0;
+    let e = parts.exponent as f64 - 1074.0;
     let hi = (e * quotients[256] + quotients[j]) / 8796093022208.0;
     let lo = (e * remainders[256] + remainders[j]) / 1180591620717411303424.0;
     let t = l / (c * 17592186044416.0);
@@ -577,7 +579,7 @@ pub fn ln_by<'a>(quotients: &'a [f64; 257], remainders: &'a [f64; 257], x: f64) 
 {
     if x > 0.0 {
         return match significand::parts_of(x) {
-            Some(p) => ln_of(quotients, remainders, p.significand, p.exponent),
+            Some(parts) => ln_of(quotients, remainders, parts),
             // the infinity
             None => x,
         };

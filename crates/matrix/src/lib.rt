@@ -1,4 +1,5 @@
-// Products of vectors and matrices that lie by rows in slices of numbers. Each is written once, for every size.
+// Products of vectors and matrices that lie by rows in slices of numbers. Each is written once, for every size. A matrix is
+// passed as its slice and its size n, since `by_size` passes n on as a constant, which the field of a struct would not be.
 #![tactic(auto)]
 
 ghost use Rattle.std.specs.Prelude.{◌≡◌, ◌++◌, ◌+◌, ◌*◌, ◌^◌, ◌≤◌, ◌<◌, length, take, drop};

@@ -1,4 +1,4 @@
-pub mod Fours
+pub mod Runs
 pub mod Shown
 pub mod Tests
 pub mod Finite

@@ -48,7 +48,7 @@ fn is_good(c: GstOptimizerConfig) -> bool
     (0 < c.max_iterations) & ((0 < c.max_backtracks) & step)
 }
 
-// The number of a gate's entry, by rows.
+// The number of a gate's entry, by rows. That row and column are below 2^24, as a word has them, is no field of a `Coordinate`: `coordinate_breaks` takes any.
 #[tactic(auto, using(crate::proofs::Fields::row_most))]
 fn entry_number(layout: Layout, c: Coordinate) -> usize
     requires { (c.row < 2 ^ 24) × (c.column < 2 ^ 24) }

@@ -1,6 +1,7 @@
 -- The tests before the sum, taken apart in their order. Assumes nothing.
 use Rattle.std.proofs.Common.{Err, Ok}
-use Rattle.refusal.specs.Verdicts.{good, Verdict, after}
+use Rattle.refusal.specs.Verdicts.{good, Verdict, after, finite_or}
+use Rattle.refusal.proofs.Verdicts.{finite-held, finite-refused}
 use mathlib.Core.Path.{◌≡◌, refl, ap}
 use mathlib.Core.Bool.{Bool, true, false, cond, not}
 use mathlib.Core.List.{List, []}
@@ -19,18 +20,18 @@ use Rattle.pauli.proofs.Entries.{below-four}
 -- ---- a vector
 
 module _ (t : Float) (es : List Float) where
-  pub not_finite : all_finite es ≡ false → Err NonFinite ≡ vet_of t es
+  pub not_finite : (r : Refusal) → Err r ≡ finite_or NonFinite es → Err r ≡ vet_of t es
   unfolding vet_of
-  not_finite h = yes _ (ap not h)
+  not_finite r e = let f = finite-refused NonFinite r es e in rw f.0 (yes _ (ap not f.1))
 
-  module _ (f : all_finite es ≡ true) where
-    pub not-normalized : lt t (abs (at es 0 -ᶠ one_f)) ≡ true → Err (InvalidNormalization (at es 0)) ≡ vet_of t es
+  module _ (f : good ≡ finite_or NonFinite es) where
+    pub not_normalized : lt t (abs (at es 0 -ᶠ one_f)) ≡ true → Err (InvalidNormalization (at es 0)) ≡ vet_of t es
     unfolding vet_of
-    not-normalized h = no _ (ap not f) (yes _ h)
+    not_normalized h = no _ (ap not (finite-held NonFinite es f)) (yes _ h)
 
     pub normalized : lt t (abs (at es 0 -ᶠ one_f)) ≡ false → good ≡ vet_of t es
     unfolding vet_of
-    normalized h = no _ (ap not f) (no _ h refl)
+    normalized h = no _ (ap not (finite-held NonFinite es f)) (no _ h refl)
 
   -- a good vector is finite
   pub good-finite : good ≡ vet_of t es → all_finite es ≡ true
@@ -45,15 +46,6 @@ module _ (t : Float) (es : List Float) where
       go false b e = absurd (never e)
 
 -- ---- admission
-
-module _ {A : Type 0} (t : Float) (es : List Float) (refused : Refusal → A) (next : A) where
-  pub by-tolerance : positive t ≡ false → refused InvalidTolerance ≡ admitted t es refused next
-  unfolding admitted
-  by-tolerance h = yes _ (ap not h)
-
-  pub by-vector : (v : Verdict) → positive t ≡ true → v ≡ vet_of t es → after v refused next ≡ admitted t es refused next
-  unfolding admitted
-  by-vector v p e = no _ (ap not p) (ap (λ (x : Verdict). after x refused next) e)
 
 -- there is an identity
 pub some : (n : ℕ) → n ≤ 3 → 0 < 4 ^ n

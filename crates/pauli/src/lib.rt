@@ -157,6 +157,7 @@ fn density_tested(n: usize, es: &[f64], out: &mut [f64]) -> Result<(), Refusal>
 }
 
 // Tests a vector of expectations.
+#[tactic(auto, using(refusal::proofs::Verdicts::passed_on, crate::proofs::Admission::not_finite, crate::proofs::Admission::not_normalized, crate::proofs::Admission::normalized))]
 pub fn vet(tolerance: f64, es: &[f64]) -> Result<(), Refusal>
     requires { 0 < length es.now }
     ensures { result ≡ vet_of tolerance es.now }
@@ -179,9 +180,7 @@ pub fn linear_inversion(
     requires { (n ≤ 3) × (length es.now ≡ 4 ^ n) × (2 * (2 ^ n * 2 ^ n) ≤ length out.old) }
     ensures { (result ≡ inverted_of n tolerance es.now) × (out.new ≡ over (computed_of n tolerance es.now) out.old) }
 {
-    if !numbers::is_positive(tolerance) {
-        return Err(Refusal::InvalidTolerance);
-    }
+    refusal::check_tolerance(tolerance)?;
     vet(tolerance, es)?;
     density_tested(n, es, out)
 }

@@ -81,7 +81,7 @@ pub fn pivot_row(work: &[f64], n: usize, w: usize, k: usize) -> usize
     let m = n - k;
     let mut p = k;
     let mut size = size_at(work, n, w, k, k);
-    // By places: the entries of a column stand w numbers apart.
+    // By places: the entries of a column stand w numbers apart, and the place of the largest is what is sought.
     for t in 0..m {
         let x = size_at(work, n, w, k, k + t);
         let keep = stays_largest(x, size);

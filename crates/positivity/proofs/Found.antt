@@ -1,6 +1,6 @@
 -- What a call found, told by the definitions. Assumes nothing.
 use Rattle.std.proofs.Common.{Err, Ok}
-use Rattle.refusal.specs.Verdicts.{good, Verdict, first_of, checked_numbers}
+use Rattle.refusal.specs.Verdicts.{good, Verdict, first_of, checked_numbers, tolerance_of}
 use Prim.Native.Nat.{ℕ, ◌*◌, ◌^◌, ◌≤◌, ◌<◌}
 use mathlib.Core.Path.{◌≡◌, refl, sym, ap, ap₂, ◌∙◌}
 use mathlib.Core.Bool.{Bool, true, false}
@@ -17,7 +17,7 @@ use Rattle.choi.proofs.Values.{good-choi, length-choi}
 use Rattle.lists.specs.Build.{over}
 use Rattle.lists.proofs.Parts.{front-again, front_fits, front_length}
 use Rattle.sizes.proofs.Small.{four-some, four-most}
-use Rattle.positivity.specs.Positivity.{Positivity, none_below, known, tolerance_of, choi_values, positivity_verdict, completely_positive, told, judged}
+use Rattle.positivity.specs.Positivity.{Positivity, none_below, known, choi_values, positivity_verdict, completely_positive, told, judged}
 
 -- ---- eigenvalues, as a call gave them
 
@@ -86,9 +86,9 @@ module _ (n : ℕ) (t : Float) (rotations : ℕ) (transfer : List Float) (w : Ve
       ≡ told (positivity_verdict n t rotations transfer) (completely_positive n t rotations transfer)
   by-found v f = ap (λ (x : Verdict). told (first_of x (first_of (normalized_choi n transfer) (known (choi_values n t rotations transfer)))) (completely_positive n t rotations transfer)) (sym f) ∙ by_tests
 
-  pub tests-refused : (r : Refusal) → w ≡ Err r → Err r ≡ told (positivity_verdict n t rotations transfer) (completely_positive n t rotations transfer)
-  tests-refused r f = by-found (Err r) f
+  pub tests_refused : (r : Refusal) → w ≡ Err r → Err r ≡ told (positivity_verdict n t rotations transfer) (completely_positive n t rotations transfer)
+  tests_refused r f = by-found (Err r) f
 
-  pub tests-good : w ≡ good → told (first_of (normalized_choi n transfer) (known (choi_values n t rotations transfer))) (completely_positive n t rotations transfer)
+  pub tests_good : w ≡ good → told (first_of (normalized_choi n transfer) (known (choi_values n t rotations transfer))) (completely_positive n t rotations transfer)
       ≡ told (positivity_verdict n t rotations transfer) (completely_positive n t rotations transfer)
-  tests-good f = by-found good f
+  tests_good f = by-found good f

@@ -1,13 +1,12 @@
 -- Complete positivity (Nielsen and Chuang, section 8.2.4): a process is completely positive where its Choi matrix has no negative eigenvalue. As the Rust's
 -- `is_completely_positive` tests it: no eigenvalue of the normalized Choi matrix is below minus the tolerance.
-use Rattle.refusal.specs.Verdicts.{good, Verdict, first_of, checked_numbers}
-use Rattle.std.specs.Prelude.{Result, Err, Ok, ℕ, ◌*◌, ◌^◌, Bool, true, false, cond, ◌&&◌, List, length, Float}
+use Rattle.refusal.specs.Verdicts.{good, Verdict, first_of, checked_numbers, tolerance_of}
+use Rattle.std.specs.Prelude.{Result, Err, Ok, ℕ, ◌*◌, ◌^◌, Bool, true, false, ◌&&◌, List, length, Float}
 use Rattle.std.specs.Float.Ieee.{le, neg}
 use Rattle.lists.specs.Fold.{fold}
-use Rattle.numbers.specs.Number.{positive}
 use Rattle.numbers.specs.Slice.{at}
 use Rattle.refusal.specs.declared.Refusal.{Refusal}
-use Rattle.refusal.specs.declared.Refusal.TheVariants.{InvalidTolerance, EigensolverDidNotConverge}
+use Rattle.refusal.specs.declared.Refusal.TheVariants.{EigensolverDidNotConverge}
 use Rattle.entries.specs.Entries.{entries}
 use Rattle.eigen.specs.Jacobi.{Values, values, unknown_values, eigenvalues_of}
 use Rattle.choi.specs.Choi.{choi_of, choi_tested}
@@ -29,10 +28,6 @@ known unknown_values = Err EigensolverDidNotConverge
 abbrev pub all_from : Float → Values → Bool
 all_from bound (values w) = none_below bound w
 all_from bound unknown_values = false
-
--- what the Rust tests of a tolerance
-unfoldable pub tolerance_of : Float → Verdict
-tolerance_of tolerance = cond (positive tolerance) good (Err InvalidTolerance)
 
 -- the tests in the Rust's order: of the transfer matrix, of the tolerance, of the Choi matrix, and whether the rotations are enough
 unfoldable pub positivity_verdict : ℕ → Float → ℕ → List Float → Verdict

@@ -4,9 +4,9 @@
 ghost use Rattle.std.specs.Prelude.{◌≡◌, ◌*◌, ◌^◌, ◌≤◌, ◌<◌, length};
 ghost use Rattle.entries.specs.Entries.{entries};
 ghost use Rattle.eigen.specs.Jacobi.{eigenvalues_of};
-ghost use Rattle.refusal.specs.Verdicts.{first_of, checked_numbers};
+ghost use Rattle.refusal.specs.Verdicts.{first_of, checked_numbers, tolerance_of};
 ghost use Rattle.choi.specs.Choi.{normalized_choi};
-ghost use Rattle.positivity.specs.Positivity.{none_below, known, judged, tolerance_of, choi_values, positivity_verdict, completely_positive, told};
+ghost use Rattle.positivity.specs.Positivity.{none_below, known, judged, choi_values, positivity_verdict, completely_positive, told};
 
 use refusal::Refusal;
 use sizes::{four_to, square};
@@ -46,13 +46,11 @@ fn check(n: usize, transfer: &[f64], tolerance: f64) -> Result<(), Refusal>
     ensures { result ≡ first_of (checked_numbers (4 ^ n * 4 ^ n) transfer.now) (tolerance_of tolerance) }
 {
     refusal::check_numbers(square(four_to(n)), transfer)?;
-    if !numbers::is_positive(tolerance) {
-        return Err(Refusal::InvalidTolerance);
-    }
-    Ok(())
+    refusal::check_tolerance(tolerance)
 }
 
 // The Rust's `PauliTransferMatrix::try_new` and `is_completely_positive`, with a limit of rotations.
+#[tactic(auto, using(refusal::proofs::Verdicts::passed_on, crate::proofs::Found::tests_refused, crate::proofs::Found::tests_good))]
 pub fn is_completely_positive(
     n: usize,
     transfer: &[f64],

@@ -1,8 +1,8 @@
 -- Verdicts that are not refusal 16, the one that only the length of a slice decides. Assumes nothing.
 use Rattle.std.proofs.Common.{Err, Ok}
-use Rattle.refusal.specs.Verdicts.{good, Verdict, first_of, finite_or, checked_numbers}
+use Rattle.refusal.specs.Verdicts.{good, Verdict, first_of, finite_or, checked_numbers, counted_of}
 use Prim.Native.Nat.{ℕ}
-use mathlib.Core.Path.{◌≡◌, refl, ap, ◌∙◌}
+use mathlib.Core.Path.{◌≡◌, refl, ap, subst, ◌∙◌}
 use mathlib.Core.Bool.{Bool, true, false, cond}
 use mathlib.Core.List.{List}
 use borrow.Author.Tests.{eqb-false}
@@ -15,7 +15,7 @@ use Rattle.numbers.specs.Slice.{all_finite}
 use Rattle.refusal.specs.declared.Refusal.{Refusal}
 use Rattle.refusal.specs.declared.Refusal.TheVariants.{Shape, NonFinite}
 use Rattle.refusal.specs.Values.{code_of}
-use Rattle.refusal.proofs.Verdicts.{never-good}
+use Rattle.refusal.proofs.Verdicts.{never-good, count-first}
 
 pub record Lower (v : Verdict) : Type 0 where
   pub low : (r : Refusal) → v ≡ Err r → code_of r ≡ 16 → ⊥
@@ -49,6 +49,9 @@ pub lower-finite : (r : Refusal) (xs : List Float) → (code_of r ≡ 16 → ⊥
 unfolding finite_or
 lower-finite r xs h = lower-test (all_finite xs) r h
 
+pub lower-counted : (wanted : ℕ) (xs : List Float) → Lower (counted_of wanted xs)
+unfolding counted_of
+lower-counted wanted xs = lower-test (eqb (length xs) wanted) (Shape wanted (length xs)) (eqb-false 2 16 refl)
+
 pub lower-numbers : (wanted : ℕ) (xs : List Float) → Lower (checked_numbers wanted xs)
-unfolding checked_numbers
-lower-numbers wanted xs = lower-either (eqb (length xs) wanted) (lower-finite NonFinite xs (eqb-false 3 16 refl)) (lower-refused (Shape wanted (length xs)) (eqb-false 2 16 refl))
+lower-numbers wanted xs = subst Lower (count-first wanted xs) (lower-first (lower-counted wanted xs) (lower-finite NonFinite xs (eqb-false 3 16 refl)))

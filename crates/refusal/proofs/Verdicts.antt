@@ -1,9 +1,10 @@
 -- What a good verdict says of what was tested. Assumes nothing.
-use Rattle.std.proofs.Common.{◌+◌, add-one, Err, Ok}
-use Rattle.refusal.specs.Verdicts.{good, Verdict, first_of, finite_or, checked_numbers}
+use Rattle.std.proofs.Common.{◌+◌, add-one, Result, Err, Ok}
+use Rattle.std.specs.Result.{IsErrAnd}
+use Rattle.refusal.specs.Verdicts.{good, Verdict, first_of, after, finite_or, checked_numbers, counted_of, tolerance_of}
 use Prim.Native.Nat.{ℕ, zero, suc, ◌<◌}
-use mathlib.Core.Path.{◌≡◌, refl, sym, subst}
-use mathlib.Core.Bool.{Bool, true, false, cond}
+use mathlib.Core.Path.{◌≡◌, refl, sym, ap, subst, ◌∙◌}
+use mathlib.Core.Bool.{Bool, true, false, cond, not}
 use mathlib.Core.List.{List}
 use mathlib.Core.Logic.{⊎_elim}
 use native.Mathlib.Nat.{not-suc-le-zero, eq-or-lt_of_le, le_of_suc-le-suc}
@@ -13,9 +14,10 @@ use lib.Dec.{eqb}
 use lib.ListN.{length}
 use lib.Ieee.{Float}
 use Rattle.lists.specs.Fold.{fold}
+use Rattle.numbers.specs.Number.{positive}
 use Rattle.numbers.specs.Slice.{all_finite}
 use Rattle.refusal.specs.declared.Refusal.{Refusal}
-use Rattle.refusal.specs.declared.Refusal.TheVariants.{Shape, NonFinite}
+use Rattle.refusal.specs.declared.Refusal.TheVariants.{Shape, NonFinite, InvalidTolerance}
 
 pub never-good : {r : Refusal} → good ≡ Err r → ⊥
 never-good e = let z : ◌≡◌ {A = ℕ} 0 1 = cc in omega arith
@@ -63,6 +65,38 @@ first-refuses a b r e = rw e refl
 pub second-decides : (a b w : Verdict) → a ≡ good → w ≡ b → w ≡ first_of a b
 second-decides a b w e f = rw e f
 
+-- ---- a refusal, as `?` passes it on
+
+pub passed_on : {T : Type 0} {r : Refusal} {x y : Result T Refusal} → IsErrAnd x (λ q. q ≡ r) → Err r ≡ y → x ≡ y
+passed_on {x = Ok _} h e = absurd h
+passed_on {x = Err _} h e = rw h e
+
+-- ---- the tolerance, and then what a test v finds
+
+module _ {A : Type 0} (t : Float) (v : Verdict) (refused : Refusal → A) (next : A) where
+  after-tolerance : after (tolerance_of t) refused (after v refused next) ≡ cond (not (positive t)) (refused InvalidTolerance) (after v refused next)
+  unfolding tolerance_of
+  after-tolerance = go (positive t)
+    where
+      go : (b : Bool) → after (cond b good (Err InvalidTolerance)) refused (after v refused next) ≡ cond (not b) (refused InvalidTolerance) (after v refused next)
+      go true = refl
+      go false = refl
+
+  pub tolerance-refused : (r : Refusal) → Err r ≡ tolerance_of t → refused r ≡ cond (not (positive t)) (refused InvalidTolerance) (after v refused next)
+  tolerance-refused r e = ap (λ (x : Verdict). after x refused (after v refused next)) e ∙ after-tolerance
+
+  pub tolerance-passed : (w : Verdict) → good ≡ tolerance_of t → w ≡ v → after w refused next ≡ cond (not (positive t)) (refused InvalidTolerance) (after v refused next)
+  tolerance-passed w e f = ap (λ (x : Verdict). after x refused next) f ∙ ap (λ (x : Verdict). after x refused (after v refused next)) e ∙ after-tolerance
+
+-- nothing else is tested
+pub tolerance-last : (t : Float) → tolerance_of t ≡ cond (not (positive t)) (Err InvalidTolerance) good
+unfolding tolerance_of
+tolerance-last t = go (positive t)
+  where
+    go : (b : Bool) → cond b good (Err InvalidTolerance) ≡ cond (not b) (Err InvalidTolerance) good
+    go true = refl
+    go false = refl
+
 -- ---- tests in a row, as a loop makes them that ends at the first refusal
 
 module _ (f : ℕ → Verdict) where
@@ -95,11 +129,20 @@ module _ (f : ℕ → Verdict) where
   pub tested-all : (n i : ℕ) → i ≡ n → tested i ≡ good → good ≡ tested n
   tested-all n i e h = sym (subst (λ (j : ℕ). tested j ≡ good) e h)
 
--- as many numbers as wanted
-pub good_length : (wanted : ℕ) (xs : List Float) → good ≡ checked_numbers wanted xs → length xs ≡ wanted
-unfolding checked_numbers
-good_length wanted xs e = go (eqb (length xs) wanted) refl e
+-- ---- numbers, as many as wanted
+
+pub counted : (wanted : ℕ) (xs : List Float) → good ≡ counted_of wanted xs → length xs ≡ wanted
+unfolding counted_of
+counted wanted xs e = eqb-true (length xs) wanted (held _ _ e)
+
+-- their count is tested first
+pub count-first : (wanted : ℕ) (xs : List Float) → first_of (counted_of wanted xs) (finite_or NonFinite xs) ≡ checked_numbers wanted xs
+unfolding counted_of checked_numbers
+count-first wanted xs = go (eqb (length xs) wanted)
   where
-    go : (b : Bool) → eqb (length xs) wanted ≡ b → good ≡ cond b (finite_or NonFinite xs) (Err (Shape wanted (length xs))) → length xs ≡ wanted
-    go true q e = eqb-true (length xs) wanted q
-    go false q e = absurd (never-good e)
+    go : (b : Bool) → first_of (cond b good (Err (Shape wanted (length xs)))) (finite_or NonFinite xs) ≡ cond b (finite_or NonFinite xs) (Err (Shape wanted (length xs)))
+    go true = refl
+    go false = refl
+
+pub good_length : (wanted : ℕ) (xs : List Float) → good ≡ checked_numbers wanted xs → length xs ≡ wanted
+good_length wanted xs e = counted wanted xs (both-good _ _ (e ∙ sym (count-first wanted xs))).0

@@ -4,7 +4,7 @@
 
 ghost use Rattle.std.specs.Prelude.{◌≡◌};
 ghost use Rattle.refusal.specs.Values.{code_of, reason_number, value_a, value_b};
-ghost use Rattle.refusal.specs.Verdicts.{finite_or, checked_numbers};
+ghost use Rattle.refusal.specs.Verdicts.{finite_or, checked_numbers, counted_of, tolerance_of};
 
 // Why a fit cannot be run, which the Rust says in words.
 #[derive(Clone, Copy, Debug, PartialEq, Eq)]
@@ -113,16 +113,36 @@ pub fn finite_or(r: Refusal, xs: &[f64]) -> Result<(), Refusal>
     Err(r)
 }
 
-// Refuses numbers that are not as many as wanted, or not all finite.
-pub fn check_numbers(wanted: usize, xs: &[f64]) -> Result<(), Refusal>
-    ensures { result ≡ checked_numbers wanted xs.now }
+// Refuses numbers that are not as many as wanted.
+#[tactic(auto, unfolding(crate::specs::Verdicts::counted_of))]
+pub fn check_count(wanted: usize, xs: &[f64]) -> Result<(), Refusal>
+    ensures { result ≡ counted_of wanted xs.now }
 {
     let found = xs.len();
     if found == wanted {
-        return finite_or(Refusal::NonFinite, xs);
+        return Ok(());
     }
     Err(Refusal::Shape {
         expected: wanted as u64,
         actual: found as u64,
     })
+}
+
+// Refuses numbers that are not as many as wanted, or not all finite.
+pub fn check_numbers(wanted: usize, xs: &[f64]) -> Result<(), Refusal>
+    ensures { result ≡ checked_numbers wanted xs.now }
+{
+    check_count(wanted, xs)?;
+    finite_or(Refusal::NonFinite, xs)
+}
+
+// Refuses a tolerance that is not finite and above zero.
+#[tactic(auto, unfolding(crate::specs::Verdicts::tolerance_of))]
+pub fn check_tolerance(tolerance: f64) -> Result<(), Refusal>
+    ensures { result ≡ tolerance_of tolerance }
+{
+    if !numbers::is_positive(tolerance) {
+        return Err(Refusal::InvalidTolerance);
+    }
+    Ok(())
 }

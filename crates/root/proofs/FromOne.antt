@@ -32,8 +32,8 @@ root-from-one x r o =
     let a = above x (r * 2 ^ 1022) (mul-pos (lt_of_lt_of_le (pow_pos 52) o.low) (pow_pos 1022)) v in
     let p = o.pattern in
     let s = of-high x f a.0 (λ z. omega (arith, o.low, o.high)) in
-    let m : significand_of x ≡ r = sym s.0 ∙ omega (arith, o.low, o.high) in
-    let n : exponent_of x ≡ 1074 = sym s.1 ∙ omega (arith, o.low, o.high) in
+    let m : significand_of x ≡ r = sym s.significand ∙ omega (arith, o.low, o.high) in
+    let n : exponent_of x ≡ 1074 = sym s.exponent ∙ omega (arith, o.low, o.high) in
     of_positive x a.1 a.0 ∙ rw (m, n)
 
 -- d is the root of x, if its digits are those of the nearest whole number

@@ -5,6 +5,8 @@ ghost use Rattle.std.specs.Prelude.{◌≡◌, cond, ◌+◌, ◌-◌, ◌*◌, 
 ghost use Rattle.root.specs.Root.{root_of, sqrt};
 ghost use Rattle.root.specs.Search.{Brackets, Found, FromOne};
 
+use significand::Parts;
+
 // (p * p + p) / 2^52: the square of p + 1/2 in units of 2^52, rounded down.
 fn middle(p: u64) -> u64
     requires { p < 2 ^ 53 }
@@ -42,6 +44,7 @@ fn searched_root(m: u64) -> u64
         lo: 4503599627370495,
         hi: 9007199254740991,
     };
+    // The bracket is halved: nothing is gone over.
     while b.hi - b.lo > 1 {
         b = halved(m, b);
     }
@@ -87,11 +90,11 @@ fn nearer(f: f64, y: f64) -> f64 {
     r + (f - s) * (r + r) / (3.0 * s + f)
 }
 
-// About the root of m, or of 2m where `odd`, as a number of 53 digits. Nothing is promised of how near it is.
-fn guess(m: u64, odd: bool) -> u64
-    requires { (2 ^ 52 ≤ m) × (m < 2 ^ 53) }
+// About the root of the significand, or of twice it where `odd`, as a number of 53 digits. Nothing is promised of how near it is.
+fn guess(parts: Parts, odd: bool) -> u64
     ensures { (2 ^ 52 ≤ result) × (result < 2 ^ 53) }
 {
+    let m = parts.significand;
     let y = about(f64::from_bits(0x3fe0_0000_0000_0000 + m)) * root_of_factor(odd);
     let d = nearer(
         f64::from_bits(0x3fe0_0000_0000_0000 + u64::from(odd) * 4503599627370496 + m),
@@ -103,22 +106,21 @@ fn guess(m: u64, odd: bool) -> u64
     d.to_bits() % 4503599627370496 + 4503599627370496
 }
 
-// m, or 2m where `odd`.
-fn scaled(m: u64, odd: bool) -> u64
-    requires { m < 2 ^ 53 }
-    ensures { (result ≡ cond odd (2 * m) m) × (m ≤ result) × (result ≤ 2 * m) }
+// The significand, or twice it where `odd`.
+fn scaled(parts: Parts, odd: bool) -> u64
+    ensures { (result ≡ cond odd (2 * parts.significand) parts.significand) × (2 ^ 52 ≤ result) × (result ≤ 2 ^ 54 - 2) }
 {
+    let m = parts.significand;
     if odd { 2 * m } else { m }
 }
 
-// The root of m * 2^n / 2^1126.
-fn root_of(m: u64, n: u64) -> f64
-    requires { (2 ^ 52 ≤ m) × (m < 2 ^ 53) × (n ≤ 2097) }
-    ensures { result ≡ root_of m n }
+// The root of M * 2^n / 2^1126, for the significand M and the exponent n.
+fn root_of(parts: Parts) -> f64
+    ensures { result ≡ root_of parts.significand parts.exponent }
 {
-    let d = n / 2 + 485;
-    let odd = n % 2 == 1;
-    let p = near_root(scaled(m, odd), guess(m, odd));
+    let d = parts.exponent / 2 + 485;
+    let odd = parts.exponent % 2 == 1;
+    let p = near_root(scaled(parts, odd), guess(parts, odd));
     f64::from_bits(d * 4503599627370496 + p)
 }
 
@@ -128,7 +130,7 @@ pub fn sqrt(x: f64) -> f64
 {
     if x > 0.0 {
         return match significand::parts_of(x) {
-            Some(p) => root_of(p.significand, p.exponent),
+            Some(parts) => root_of(parts),
             // the infinity
             None => x,
         };

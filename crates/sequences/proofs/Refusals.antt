@@ -4,23 +4,19 @@ use mathlib.Core.Path.{refl}
 use mathlib.Core.Bool.{◌||◌}
 use mathlib.Core.List.{List}
 use borrow.Author.Tests.{eqb-false}
-use lib.Dec.{eqb, ltb}
+use lib.Dec.{ltb}
 use lib.ListN.{length, get_or}
 use lib.Ieee.{Float}
-use Rattle.refusal.specs.declared.Refusal.TheVariants.{Shape, UnknownGate, InvalidCard}
-use Rattle.refusal.proofs.Lower.{Lower, lower-good, lower-refused, lower-either, lower-test, lower-first, lower-each}
+use Rattle.refusal.specs.declared.Refusal.TheVariants.{UnknownGate, InvalidCard}
+use Rattle.refusal.proofs.Lower.{Lower, lower-good, lower-refused, lower-either, lower-test, lower-first, lower-each, lower-counted}
 use Rattle.card_layout.specs.Limits.{limits_of}
 use Rattle.model.proofs.Refusals.{lower-tested}
 use Rattle.gate_set.specs.GateSet.{present_of}
-use Rattle.sequences.specs.Sequences.{limits_verdict, model_size, counted_of, given, given_verdict, sequence_verdict}
+use Rattle.sequences.specs.Sequences.{limits_verdict, model_size, given, given_verdict, sequence_verdict}
 
 lower-limits : (d e g n : ℕ) → Lower (limits_verdict d e g n)
 unfolding limits_verdict limits_of
 lower-limits d e g n = lower-either (ltb 16 d || (ltb 16 e || (ltb 8 g || ltb 64 n))) (lower-refused (InvalidCard 0) (eqb-false 15 16 refl)) lower-good
-
-lower-counted : (wanted : ℕ) (m : List Float) → Lower (counted_of wanted m)
-unfolding counted_of
-lower-counted wanted m = lower-test (eqb (length m) wanted) (Shape wanted (length m)) (eqb-false 2 16 refl)
 
 pub lower-sequence : (d e : ℕ) (names : List ℕ) (m : List Float) (sequence : List ℕ) → Lower (sequence_verdict d e names m sequence)
 unfolding sequence_verdict given_verdict present_of

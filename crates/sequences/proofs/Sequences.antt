@@ -1,25 +1,25 @@
 -- Sizes of a model within the limits; a sequence that was copied, and its gates by columns; what the verdicts say. Assumes nothing.
 use Rattle.std.proofs.Common.{Err}
-use Rattle.refusal.specs.Verdicts.{good, Verdict, first_of}
+use Rattle.refusal.specs.Verdicts.{good, Verdict, first_of, counted_of}
 use Prim.Native.Nat.{ℕ, ◌+◌, ◌*◌, ◌≤◌, ◌<◌}
 use mathlib.Core.Path.{◌≡◌, sym, ap, subst, ◌∙◌}
 use mathlib.Core.Bool.{◌||◌}
 use mathlib.Core.List.{List, ◌++◌}
 use native.Mathlib.Nat.{mul-le-mul}
-use borrow.Author.Tests.{eqb-true, ltb-false}
+use borrow.Author.Tests.{ltb-false}
 use lib.Dec.{ltb}
 use lib.ListN.{length, get_or}
 use lib.Ieee.{Float}
 use Rattle.lists.proofs.Parts.{row_fits}
 use Rattle.booleans.proofs.Joined.{neither}
 use Rattle.refusal.specs.declared.Refusal.{Refusal}
-use Rattle.refusal.proofs.Verdicts.{both-good, passed, held}
+use Rattle.refusal.proofs.Verdicts.{both-good, passed, counted}
 use Rattle.card_layout.specs.Limits.{limits_of}
 use Rattle.model.specs.Checked.{tested_of}
 use Rattle.gate_set.specs.GateSet.{present_of, columns_in, probabilities_by, probabilities_of}
 use Rattle.gate_set.proofs.Columns.{same-probabilities}
 use Rattle.gate_set.proofs.Sequences.{present-below}
-use Rattle.sequences.specs.Sequences.{limits_verdict, Sized, model_size, counted_of, given_verdict, sequence_verdict, given}
+use Rattle.sequences.specs.Sequences.{limits_verdict, Sized, model_size, given_verdict, sequence_verdict, given}
 
 pub products : (d e g : ℕ) → Sized d e g → (e * d ≤ 256) × (d * d ≤ 256) × (g * (d * d) ≤ 2048)
 products d e g s =
@@ -53,10 +53,6 @@ within d e g n h =
     let b = neither (ltb 16 e) (ltb 8 g || ltb 64 n) a.1 in
     let c = neither (ltb 8 g) (ltb 64 n) b.1 in
     (record { dimension = ltb-false 16 d a.0; effects = ltb-false 16 e b.0; gates = ltb-false 8 g c.0 }, ltb-false 64 n c.1)
-
-pub counted : (wanted : ℕ) (m : List Float) → good ≡ counted_of wanted m → length m ≡ wanted
-unfolding counted_of
-counted wanted m h = eqb-true (length m) wanted (held _ _ h)
 
 -- all that a good sequence has
 pub record Fitting (d e : ℕ) (names : List ℕ) (m : List Float) (sequence : List ℕ) : Type 0 where

@@ -1,8 +1,8 @@
 -- The Rust's `GateSetModel::probabilities` over a model that is given in slices (document 01's library entry): what is tested before it, in order. The model has a
 -- word for the name of each gate, and its numbers in the card's order; a sequence is gate indices.
-use Rattle.refusal.specs.Verdicts.{good, Verdict, first_of}
-use Rattle.std.specs.Prelude.{Err, ℕ, ◌+◌, ◌*◌, ◌≤◌, cond, ◌||◌, List, eqb, ltb, length, get_or, Float}
-use Rattle.refusal.specs.declared.Refusal.TheVariants.{Shape, InvalidCard}
+use Rattle.refusal.specs.Verdicts.{good, Verdict, first_of, counted_of}
+use Rattle.std.specs.Prelude.{Err, ℕ, ◌+◌, ◌*◌, ◌≤◌, cond, ◌||◌, List, ltb, length, get_or, Float}
+use Rattle.refusal.specs.declared.Refusal.TheVariants.{InvalidCard}
 use Rattle.card_layout.specs.Limits.{limits_of, longest}
 use Rattle.model.specs.Checked.{Parts, tested_of}
 use Rattle.gate_set.specs.GateSet.{state_in, effect_in, gate_in, present_of}
@@ -22,10 +22,6 @@ pub record Sized (d e g : ℕ) : Type 0 where
 -- how many numbers a model has: the state, the effects, and the gates' matrices
 abbrev pub model_size : ℕ → ℕ → ℕ → ℕ
 model_size d effects gates = d + effects * d + gates * (d * d)
-
--- as many numbers as wanted
-unfoldable pub counted_of : ℕ → List Float → Verdict
-counted_of wanted numbers = cond (eqb (length numbers) wanted) good (Err (Shape wanted (length numbers)))
 
 -- gate g's name
 abbrev pub name_in : List ℕ → ℕ → ℕ

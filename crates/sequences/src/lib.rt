@@ -6,7 +6,7 @@ ghost use Rattle.lists.specs.Part.{part};
 ghost use Rattle.numbers.specs.Slice.{all_finite};
 ghost use Rattle.refusal.specs.Verdicts.{good};
 ghost use Rattle.gate_set.specs.GateSet.{columns_in, present_of, probabilities_of};
-ghost use Rattle.sequences.specs.Sequences.{limits_verdict, model_size, counted_of, given, sequence_verdict, Sized};
+ghost use Rattle.sequences.specs.Sequences.{limits_verdict, model_size, given, sequence_verdict, Sized};
 
 use model::Tested;
 use refusal::Refusal;
@@ -28,20 +28,6 @@ fn model_size(d: usize, effects: usize, gates: usize) -> usize
     ensures { result ≡ model_size d effects gates }
 {
     d + effects * d + gates * (d * d)
-}
-
-#[tactic(auto, unfolding(crate::specs::Sequences::counted_of))]
-fn check_count(wanted: usize, numbers: &[f64]) -> Result<(), Refusal>
-    ensures { result ≡ counted_of wanted numbers.now }
-{
-    let found = numbers.len();
-    if found == wanted {
-        return Ok(());
-    }
-    Err(Refusal::Shape {
-        expected: wanted as u64,
-        actual: found as u64,
-    })
 }
 
 // A model that is given in slices: a gate for each name, and as many numbers as its sizes ask.
@@ -134,7 +120,7 @@ pub fn check<'a>(
     ensures { result ≡ sequence_verdict d effects names.now numbers.now sequence.now }
 {
     check_limits(d, effects, names.len(), sequence.len())?;
-    check_count(model_size(d, effects, names.len()), numbers)?;
+    refusal::check_count(model_size(d, effects, names.len()), numbers)?;
     model::check(&Given {
         dimension: d,
         effects,

@@ -1,6 +1,6 @@
 -- Every sheet is sound: a refusal writes nothing, and none is refusal 16. Assumes nothing.
 use Rattle.std.proofs.Common.{Err, Ok}
-use Rattle.refusal.specs.Verdicts.{good, Verdict, after}
+use Rattle.refusal.specs.Verdicts.{good, Verdict, after, tolerance_of}
 use Prim.Native.Nat.{ℕ, ◌*◌, ◌^◌}
 use mathlib.Core.Path.{refl}
 use mathlib.Core.Bool.{not, cond}
@@ -19,7 +19,7 @@ use Rattle.eigen.specs.Jacobi.{Spectrum, spectrum, unknown, Values, values, unkn
 use Rattle.density.specs.Projection.{spectral_numbers, spectral_verdict, admission, spectrum_of, projected_verdict}
 use Rattle.transfer.specs.Process.{inputs_of, transfer_of, solved_of, screened}
 use Rattle.choi.specs.Choi.{choi_of, choi_tested}
-use Rattle.positivity.specs.Positivity.{known, tolerance_of, choi_values, positivity_verdict}
+use Rattle.positivity.specs.Positivity.{known, choi_values, positivity_verdict}
 use Rattle.card_layout.specs.declared.Header.{Header}
 use Rattle.card_parts.specs.Model.{transform_of}
 use Rattle.model.proofs.Refusals.{lower-model}

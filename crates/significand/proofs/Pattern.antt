@@ -15,6 +15,7 @@ use Rattle.numbers.proofs.Leaves.{clash}
 use Rattle.rounding.specs.Units.{units_of}
 use Rattle.rounding.proofs.Units.{counted, pow-less}
 use Rattle.significand.specs.Significand.{significand_of, exponent_of}
+use Rattle.significand.proofs.Exact.{exact}
 
 -- what is not finite has no units
 pub no-units : (x : Float) → finite x ≡ false → units_of x ≡ 0
@@ -115,6 +116,15 @@ pub none : (x : Float) → units_of x ≡ 0 → (units_of x ≡ 0) × (significa
 unfolding significand_of exponent_of size
 none x e = (e, rw e refl, rw e refl)
 
+-- m and n are the parts of x
+pub record PartsOf (x : Float) (m n : ℕ) : Type 0 where
+  pub some : 0 < units_of x
+  pub significand : m ≡ significand_of x
+  pub exponent : n ≡ exponent_of x
+  pub low : 2 ^ 52 ≤ m
+  pub high : m < 2 ^ 53
+  pub reach : n ≤ 2097
+
 module _ (x : Float) (f : T (fits binary64 x)) (h : finite x ≡ true) where
   abbrev w : ℕ
   w = to_bits binary64 x % 0x8000_0000_0000_0000
@@ -132,7 +142,7 @@ module _ (x : Float) (f : T (fits binary64 x)) (h : finite x ≡ true) where
   of_zero e = sym (is-small (ap (λ (k : ℕ). k / 2 ^ 52) e)) ∙ e
 
   -- a pattern other than zero has units
-  pub some : (w ≡ 0 → ⊥) → 0 < n
+  some : (w ≡ 0 → ⊥) → 0 < n
   unfolding size
   some z = pos n (λ e. z (unsigned x f h ∙ ap pattern e))
     where
@@ -142,16 +152,22 @@ module _ (x : Float) (f : T (fits binary64 x)) (h : finite x ≡ true) where
   pub is-shifted : (w ≡ 0 → ⊥) → w / 2 ^ 52 ≡ 0 → Shifted w
   is-shifted z e = shift-up w (omega arith) (omega arith)
 
-  pub of_low : (w ≡ 0 → ⊥) → w / 2 ^ 52 ≡ 0 → (w * 2 ^ (count_leading_zeros 64 w - 11) % 2 ^ 64 ≡ significand_of x) × (52 - (count_leading_zeros 64 w - 11) ≡ exponent_of x)
+  parts : (m n : ℕ) → (w ≡ 0 → ⊥) → (m ≡ significand_of x) × (n ≡ exponent_of x) → PartsOf x m n
+  parts m n z p =
+      let e = exact x f h (some z) in
+      record { some = some z; significand = p.0; exponent = p.1; low = rw p.0 e.low; high = rw p.0 e.high; reach = rw p.1 e.reach }
+
+  pub of_low : (w ≡ 0 → ⊥) → w / 2 ^ 52 ≡ 0 → PartsOf x (w * 2 ^ (count_leading_zeros 64 w - 11) % 2 ^ 64) (52 - (count_leading_zeros 64 w - 11))
   unfolding significand_of exponent_of
   of_low z e =
       let s = is-shifted z e in
+      parts _ _ z
       (mod-eq_of_lt (lt_of_lt_of_le s.short (lit≤ tt)) ∙ s.shifted ∙ ap (λ (k : ℕ). k * 2 ^ 53 / 2 ^ size k) (is-small e), s.size ∙ ap (λ (k : ℕ). size k - 1) (is-small e))
 
   -- else the field is one more than the number of digits that are dropped, or 1 if none is
-  pub of-high : (w / 2 ^ 52 ≡ 0 → ⊥) → (2 ^ 52 + w % 2 ^ 52 ≡ significand_of x) × (w / 2 ^ 52 + 51 ≡ exponent_of x)
+  pub of-high : (w / 2 ^ 52 ≡ 0 → ⊥) → PartsOf x (2 ^ 52 + w % 2 ^ 52) (w / 2 ^ 52 + 51)
   unfolding significand_of exponent_of
-  of-high z = (
+  of-high z = parts _ _ (λ e. z (ap (λ (k : ℕ). k / 2 ^ 52) e)) (
     (let e : 2 ^ 52 + w % 2 ^ 52 ≡ n / 2 ^ k = omega (arith, field, rest) in
         e ∙ sym (mul-div-mul_right n (2 ^ k) (pow_pos 53)) ∙ ap (λ (j : ℕ). n * 2 ^ 53 / j) (sym (pow-add 2 k 53) ∙ ap (λ (j : ℕ). 2 ^ j) (sym all))),
     omega (arith, all, field),

@@ -1,7 +1,7 @@
 // The significand and the exponent of a number.
 #![tactic(auto)]
 
-ghost use Rattle.std.specs.Prelude.{◌≡◌, ◌<◌, MatchOption};
+ghost use Rattle.std.specs.Prelude.{◌≡◌, ◌^◌, ◌≤◌, ◌<◌, MatchOption};
 ghost use Rattle.rounding.specs.Units.{units_of};
 ghost use Rattle.significand.specs.Significand.{significand_of, exponent_of};
 
@@ -10,6 +10,9 @@ ghost use Rattle.significand.specs.Significand.{significand_of, exponent_of};
 pub struct Parts {
     pub significand: u64,
     pub exponent: u64,
+    ghost low: { 2 ^ 52 ≤ significand },
+    ghost high: { significand < 2 ^ 53 },
+    ghost reach: { exponent ≤ 2097 },
 }
 
 // The parts of a finite number other than zero. A zero, a NaN and an infinity have none.

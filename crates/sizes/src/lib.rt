@@ -1,4 +1,5 @@
-// Squares and powers of small whole numbers.
+// Squares and powers of small whole numbers. Here and in the crates above, each contract says how many qubits there are at most: a type for such a number would ask
+// more of callers.
 #![tactic(auto)]
 
 ghost use Rattle.std.specs.Prelude.{◌≡◌, ◌*◌, ◌^◌, ◌≤◌, ◌<◌};

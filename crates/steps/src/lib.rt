@@ -135,7 +135,7 @@ pub fn run(
 {
     let mut r = start;
     // So many at most: nothing is gone over.
-    for i in 0..limited.task.config.max_iterations {
+    for _ in 0..limited.task.config.max_iterations {
         if r.stop.is_some() {
             return Ok(r);
         }

@@ -47,15 +47,6 @@ module _ (t : Float) (v : List Float) (p : ℕ) where
     unfolding solved_of
     solved front w f g = no _ (ap not h) (g ∙ ap (finite_or NonFinite) f)
 
-module _ {A : Type 0} (t : Float) (v : List Float) (p : ℕ) (refused : Refusal → A) (next : A) where
-  pub by-tolerance : positive t ≡ false → refused InvalidTolerance ≡ screened t v p refused next
-  unfolding screened
-  by-tolerance h = yes _ (ap not h)
-
-  pub by-vectors : (w : Verdict) → positive t ≡ true → w ≡ vetted_of t v p → after w refused next ≡ screened t v p refused next
-  unfolding screened
-  by-vectors w h e = no _ (ap not h) (ap (λ (x : Verdict). after x refused next) e)
-
 -- what a call computes where it is good
 pub computed-process : (t : Float) (v : List Float) (p : ℕ) → process_of t v p ≡ good → process_numbers t v p ≡ transfer_of t v p
 unfolding screened solved_of solved_numbers

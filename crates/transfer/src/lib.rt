@@ -90,9 +90,7 @@ pub fn process_linear_inversion(
     requires { (1 ≤ p) × (p ≤ 16) × (2 * (p * p) ≤ length vectors.now) × (p * p ≤ length out.old) }
     ensures { (result ≡ process_of tolerance vectors.now p) × (out.new ≡ over (process_numbers tolerance vectors.now p) out.old) }
 {
-    if !numbers::is_positive(tolerance) {
-        return Err(Refusal::InvalidTolerance);
-    }
+    refusal::check_tolerance(tolerance)?;
     let probes = Probes {
         vectors,
         tolerance,

@@ -35,7 +35,7 @@ use Rattle.filling.specs.Filling.{excess, sum_from, stays, active_count, thresho
 use Rattle.eigen.specs.Jacobi.{jacobi, unit_at as unit_vector_at, unit, diagonal, columns_in, ascending, eig_of, ascending_values, eigenvalues_of}
 use Rattle.density.specs.Projection.{halved_at, halved, term_at, mixed_at, mixed, spectral_numbers, spectral_verdict, admission, projected_verdict, projected_numbers}
 use Rattle.choi.specs.Choi.{coefficient, term, choi_part, choi_of, choi_tested}
-use Rattle.positivity.specs.Positivity.{none_below, choi_values, tolerance_of, positivity_verdict, completely_positive}
+use Rattle.positivity.specs.Positivity.{none_below, choi_values, positivity_verdict, completely_positive}
 use Rattle.physical.specs.Physical.{unit_at, near, near_unit, trace_preserving, unital}
 use Rattle.sheets.specs.Sheets.{density_sheet, projected_sheet, process_sheet_of, physical_of, gauge_verdict, gauge_sheet}
 use Rattle.gate_set.specs.GateSet.{through, measured, probabilities_of, present_of}
@@ -51,7 +51,7 @@ use Rattle.descent.specs.declared.GstTermination.TheVariants.{GradientTolerance}
 use Rattle.fit_sheets.specs.Sheets.{fit_words, request_sheet, fit_sheet}
 use Rattle.tomography.specs.Sheet.{model_sheet, kind_sheet, sheet_of}
 use Rattle.refusal.specs.declared.Refusal.TheVariants.{InvalidNormalization, Operator, SingularGaugeTransform, EigensolverDidNotConverge}
-use Rattle.refusal.specs.Verdicts.{finite_or, checked_numbers}
+use Rattle.refusal.specs.Verdicts.{finite_or, checked_numbers, tolerance_of}
 use Rattle.outcome.specs.declared.Answer.TheVariants.{Density, Projected, Physical, Fit, Model, Diagnostics}
 use Rattle.outcome.specs.Outcome.{Outcome, refused}
 

@@ -17,6 +17,7 @@ returns-in_err-map_err c =
     let h : c.in_err-map_err.field-0.0 ≡ EigensolverDidNotConverge = search rules in
     rw (q.1, q.2, h) ((used-up _ _ _ _ _ _ _ c.halve.ensures c.eigen.ensures c.args.out.now (sym c.map_err.ensures.variant ∙ ap is_ok c.in_err-map_err.was)).0, refl)
 
+-- the refusal stands in both parts of the promise, and in the second not as a side of an equation: so here no `passed_on`
 pub returns-in_err-finite_or : goal.returns-in_err-finite_or
 returns-in_err-finite_or c =
     let q = err_from_is_err_and c.from_residual-in_err-finite_or.result c.from_residual-in_err-finite_or.ensures.1 in

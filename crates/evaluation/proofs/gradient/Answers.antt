@@ -1,7 +1,7 @@
 use mathlib.Core.Path.{refl, ◌∙◌}
 use native.Mathlib.Omega.{arith}
 use lib.ListN.{length}
-use Rattle.std.proofs.lemmas.Result.{err_from_is_err_and}
+use Rattle.refusal.proofs.Verdicts.{passed_on}
 use Rattle.descent.specs.Fit.{derivative, gradient}
 use Rattle.objective.specs.Tasks.{job_in}
 use Rattle.evaluation.proofs.Slopes.{slopes-none, slopes-more, slopes-stop, slopes-all}
@@ -13,9 +13,8 @@ loop-i-init c = (slopes-none _ c.args.g.now, refl, refl)
 pub returns-in_err-slope : goal.returns-in_err-slope
 unfolding gradient
 returns-in_err-slope c =
-    let q = err_from_is_err_and c.from_residual.result c.from_residual.ensures.1 in
     let a = c.args in
-    rw (q.1, q.2) (slopes-stop (derivative (job_in a.t.now) a.xs.now a.o) c.loop-i.i (length a.t.now.places.now) c.loop-i.g _ _ c.loop-i.invariant.0 c.in_err-slope.ensures refl (omega arith))
+    rw (passed_on c.from_residual.ensures.1 refl) (slopes-stop (derivative (job_in a.t.now) a.xs.now a.o) c.loop-i.i (length a.t.now.places.now) c.loop-i.g _ _ c.loop-i.invariant.0 c.in_err-slope.ensures refl (omega arith))
 
 pub loop-i-preserved : goal.loop-i-preserved
 loop-i-preserved c =

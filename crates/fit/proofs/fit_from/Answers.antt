@@ -1,12 +1,11 @@
-use mathlib.Core.Path.{◌∙◌}
-use Rattle.std.proofs.lemmas.Result.{err_from_is_err_and}
+use mathlib.Core.Path.{refl, ◌∙◌}
+use Rattle.refusal.proofs.Verdicts.{passed_on}
 use Rattle.fit.proofs.Whole.{fit_leads}
 use Rattle.fit.proofs.fit_from.Goals as goal
 
 pub returns-in_err-r : goal.returns-in_err-r
 returns-in_err-r c =
-    let q = err_from_is_err_and c.from_residual.result c.from_residual.ensures.1 in
-    rw (q.1, q.2) (fit_leads c.args.limited.now.task c.args.d c.requires.0 _ _ _ _ c.copy_from_slice.ensures.after c.objective.ensures c.in_err-r.ensures)
+    rw (passed_on c.from_residual.ensures.1 refl) (fit_leads c.args.limited.now.task c.args.d c.requires.0 _ _ _ _ c.copy_from_slice.ensures.after c.objective.ensures c.in_err-r.ensures)
 
 pub returns : goal.returns
 returns c =

@@ -4,7 +4,7 @@ use native.Mathlib.Omega.{arith}
 use lib.ListN.{length, drop}
 use borrow.Author.Rules.{rules}
 use mathlib.Core.Bool.{true}
-use Rattle.std.proofs.lemmas.Result.{err_from_is_err_and}
+use Rattle.refusal.proofs.Verdicts.{passed_on}
 use Rattle.lists.proofs.Parts.{front-again, front-is}
 use Rattle.model_words.specs.Words.{numbers_of}
 use Rattle.diagnostics.specs.Diagnostics.{likelihood_of}
@@ -34,8 +34,7 @@ pub returns-in_err-d : goal.returns-in_err-d
 returns-in_err-d c =
     let k = c.args.records.now.card in
     let s = k.bytes.now in
-    let q = err_from_is_err_and c.from_residual.result c.from_residual.ensures.1 in
-    rw (q.1, q.2)
+    rw (passed_on c.from_residual.ensures.1 refl)
     (fit-by (job_of s k.header) (Err c.in_err-d.field-0.0)
     (c.in_err-d.ensures.0 ∙ ap (λ (c : GstOptimizerConfig). likelihood_of true c.probability_tolerance s k.header (numbers_of s k.header)) c.config_of-config.ensures) _ refl refl)
 

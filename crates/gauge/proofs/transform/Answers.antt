@@ -1,5 +1,5 @@
 use Rattle.std.proofs.Common.{List, sym, ap, ◌∙◌}
-use Rattle.std.proofs.lemmas.Result.{err_from_is_err_and}
+use Rattle.refusal.proofs.Verdicts.{passed_on}
 use lib.Ieee.{Float}
 use Rattle.lists.specs.Build.{over}
 use Rattle.lists.proofs.Parts.{front-again}
@@ -11,13 +11,11 @@ use Rattle.gauge.proofs.transform.Goals as goal
 
 pub returns-in_err-invert_transform : goal.returns-in_err-invert_transform
 returns-in_err-invert_transform c =
-    let q = err_from_is_err_and c.from_residual.result c.from_residual.ensures.1 in
-    rw (q.1, q.2)
-    (let s = c.args.card.now.bytes.now in
+    let s = c.args.card.now.bytes.now in
     let h = c.args.card.now.header in
     let t = front-again (transform_of s h) _ c.load_transform.ensures (length-transform _ _ ∙ sym c.square-m.ensures.0) in
     let r = transform-refused s h _ _ (c.invert_transform.ensures.0 ∙ ap (inverted_of h.dimension) t) c.in_err-invert_transform.was in
-    (r.0, ap (λ (x : List Float). over x c.args.work.now) r.1))
+    (passed_on c.from_residual.ensures.1 r.0, ap (λ (x : List Float). over x c.args.work.now) r.1)
 
 pub returns : goal.returns
 returns c =

@@ -1,4 +1,4 @@
-use Rattle.std.proofs.lemmas.Result.{err_from_is_err_and}
+use Rattle.refusal.proofs.Verdicts.{passed_on}
 use Rattle.library.proofs.Entries.{few, size-two, apply-refused, apply-goes-on}
 use Rattle.lists.specs.Build.{over}
 use native.Mathlib.Omega.{arith}
@@ -17,10 +17,8 @@ apply_expectations-requires c =
 
 pub returns-in_err-check_qubits : goal.returns-in_err-check_qubits
 returns-in_err-check_qubits c =
-    let q = err_from_is_err_and c.from_residual.result c.from_residual.ensures.1 in
-    rw (q.1, q.2)
-    (let v = apply-refused c.args.n c.args.values.now c.args.input.now _ _ c.check_qubits.ensures c.in_err-check_qubits.was in
-    (v.0, ap (λ (x : List Float). over x c.args.work.now) v.1))
+    let v = apply-refused c.args.n c.args.values.now c.args.input.now _ _ c.check_qubits.ensures c.in_err-check_qubits.was in
+    (passed_on c.from_residual.ensures.1 v.0, ap (λ (x : List Float). over x c.args.work.now) v.1)
 
 pub returns : goal.returns
 returns c =

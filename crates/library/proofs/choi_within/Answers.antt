@@ -1,4 +1,4 @@
-use Rattle.std.proofs.lemmas.Result.{err_from_is_err_and}
+use Rattle.refusal.proofs.Verdicts.{passed_on}
 use Rattle.choi.proofs.Places.{parts-most}
 use Rattle.library.proofs.Entries.{some, few, choi-refused, choi-goes-on}
 use Rattle.lists.specs.Build.{over}
@@ -15,11 +15,9 @@ normalized_choi-requires c =
 
 pub returns-in_err-check_qubits : goal.returns-in_err-check_qubits
 returns-in_err-check_qubits c =
-    let q = err_from_is_err_and c.from_residual.result c.from_residual.ensures.1 in
-    rw (q.1, q.2)
-    (let a = c.args in
+    let a = c.args in
     let v = choi-refused a.n a.values.now _ _ c.check_qubits.ensures c.in_err-check_qubits.was in
-    (v.0, ap (λ (x : List Float). over x a.work.now) v.1))
+    (passed_on c.from_residual.ensures.1 v.0, ap (λ (x : List Float). over x a.work.now) v.1)
 
 pub returns : goal.returns
 returns c =

@@ -1,14 +1,8 @@
 use Rattle.std.proofs.Common.{T, sym, subst}
 use lib.Ieee.{div, of_bits}
-use Rattle.significand.proofs.Exact.{exact, finite-units, infinite}
+use Rattle.significand.proofs.Exact.{finite-units, infinite}
 use Rattle.logarithm.proofs.Cases.{of-infinity, of-finite, of_other}
 use Rattle.logarithm.proofs.ln_by.Goals as goal
-
-pub ln_of-requires : goal.ln_of-requires
-ln_of-requires c =
-    let e = c.in-Some.ensures in
-    let p = exact _ (subst T (sym c.well_formed.1.1.0.1) tt) (finite-units _ e.0) e.0 in
-    (rw e.1 p.low, rw e.1 p.high, rw e.2 p.reach)
 
 pub returns-in-Some : goal.returns-in-Some
 unfolding of_bits

@@ -1,13 +1,9 @@
-use Rattle.refusal.specs.Verdicts.{checked_numbers}
-use Rattle.lists.proofs.Choices.{yes, no}
-use borrow.Author.Tests.{eq-eqb, ne_eqb}
-use mathlib.Core.Path.{refl, ◌∙◌}
+use mathlib.Core.Path.{sym, ◌∙◌}
+use Rattle.refusal.proofs.Verdicts.{first-refuses, second-decides, passed_on, count-first}
 use Rattle.refusal.proofs.check_numbers.Goals as goal
 
-pub returns-then-found-wanted : goal.returns-then-found-wanted
-unfolding checked_numbers
-returns-then-found-wanted c = c.finite_or.ensures ∙ yes _ (eq-eqb _ _ c.if-found-wanted.true)
+pub returns-in_err-check_count : goal.returns-in_err-check_count
+returns-in_err-check_count c = passed_on c.from_residual.ensures.1 (first-refuses _ _ _ (sym c.in_err-check_count.ensures) ∙ count-first _ _)
 
 pub returns : goal.returns
-unfolding checked_numbers
-returns c = no _ (ne_eqb _ _ c.if-found-wanted.false) refl
+returns c = second-decides _ _ _ (sym c.in_ok-check_count.ensures) c.finite_or.ensures ∙ count-first _ _

@@ -1,15 +1,9 @@
 use mathlib.Core.Path.{sym, subst}
 use lib.Dec.{T}
 use lib.Ieee.{div, of_bits}
-use Rattle.significand.proofs.Exact.{exact, finite-units, infinite}
+use Rattle.significand.proofs.Exact.{finite-units, infinite}
 use Rattle.root.proofs.Cases.{of-infinity, of_positive, of_zero, of_other}
 use Rattle.root.proofs.sqrt.Goals as goal
-
-pub root_of-requires : goal.root_of-requires
-root_of-requires c =
-    let e = c.in-Some.ensures in
-    let p = exact _ (subst T (sym c.well_formed.0.1) tt) (finite-units _ e.0) e.0 in
-    (rw e.1 p.low, rw e.1 p.high, rw e.2 p.reach)
 
 pub returns-in-Some : goal.returns-in-Some
 unfolding of_bits

@@ -2,7 +2,7 @@ use mathlib.Core.Path.{refl, ap, ◌∙◌}
 use Rattle.std.proofs.Common.{Ok, Option}
 use native.Mathlib.Omega.{arith}
 use lib.Ieee.{Float, of_bits}
-use Rattle.std.proofs.lemmas.Result.{err_from_is_err_and}
+use Rattle.refusal.proofs.Verdicts.{passed_on}
 use Rattle.objective.specs.Tasks.{job_in}
 use Rattle.search.proofs.Trials.{length-first, length-halved, trial-by, search-none, search-found, search-lost, search-passed, search-on, search-all}
 use Rattle.search.proofs.search.Goals.{in-Some+else-v-o, in_default}
@@ -20,8 +20,7 @@ returns-in_err-v c =
     let l = c.loop-k in
     let J = job_in a.task.now in
     let t = trial-by J a.xs.now a.g.now l.k _ l.s _ (omega arith) l.invariant.1 c.trial.ensures in
-    let q = err_from_is_err_and c.from_residual.result c.from_residual.ensures.1 in
-    rw (q.1, q.2) (search-lost J a.xs.now a.g.now a.o l.k _ _ l.invariant.2 t refl a.task.now.config.max_backtracks c.loop-k-test.true _ c.in_err-v.ensures, tt)
+    rw (passed_on c.from_residual.ensures.1 refl) (search-lost J a.xs.now a.g.now a.o l.k _ _ l.invariant.2 t refl a.task.now.config.max_backtracks c.loop-k-test.true _ c.in_err-v.ensures, tt)
 
 pub returns-then-v-o : goal.returns-then-v-o
 returns-then-v-o c =

@@ -1,9 +1,9 @@
 use Rattle.std.proofs.Common.{ℕ, sym, ap, ◌∙◌}
-use Rattle.std.proofs.lemmas.Result.{err_from_is_err_and}
 use native.Mathlib.Nat.{le_of_eq}
-use Rattle.refusal.proofs.Verdicts.{first-refuses, second-decides}
-use Rattle.sequences.specs.Sequences.{counted_of, given_verdict, sequence_verdict}
-use Rattle.sequences.proofs.Sequences.{within, counted, stops, goes_on}
+use Rattle.refusal.specs.Verdicts.{counted_of}
+use Rattle.refusal.proofs.Verdicts.{first-refuses, second-decides, passed_on, counted}
+use Rattle.sequences.specs.Sequences.{given_verdict, sequence_verdict}
+use Rattle.sequences.proofs.Sequences.{within, stops, goes_on}
 use Rattle.sequences.proofs.check.Goals as goal
 
 pub model_size-requires : goal.model_size-requires
@@ -12,15 +12,13 @@ model_size-requires c = (within _ _ _ _ (sym c.in_ok-check_limits.was ∙ c.chec
 pub returns-in_err-check_limits : goal.returns-in_err-check_limits
 unfolding sequence_verdict
 returns-in_err-check_limits c =
-    let q = err_from_is_err_and c.from_residual.result c.from_residual.ensures.1 in
-    rw (q.1, q.2)
+    passed_on c.from_residual.ensures.1
     (stops _ _ _ c.check_limits.ensures _ c.in_err-check_limits.was)
 
 pub returns-in_err-check_count : goal.returns-in_err-check_count
 unfolding sequence_verdict given_verdict
 returns-in_err-check_count c =
-    let q = err_from_is_err_and c.from_residual-in_err-check_count.result c.from_residual-in_err-check_count.ensures.1 in
-    rw (q.1, q.2)
+    passed_on c.from_residual-in_err-check_count.ensures.1
     (goes_on _ _ _ c.check_limits.ensures _ c.in_ok-check_limits.was
     (stops _ _ _ (c.check_count.ensures ∙ ap (λ (k : ℕ). counted_of k c.args.numbers.now) c.model_size.ensures) _ c.in_err-check_count.was))
 
@@ -34,8 +32,7 @@ invariant_of-check c =
 pub returns-in_err-check : goal.returns-in_err-check
 unfolding sequence_verdict given_verdict
 returns-in_err-check c =
-    let q = err_from_is_err_and c.from_residual-in_err-check.result c.from_residual-in_err-check.ensures.1 in
-    rw (q.1, q.2)
+    passed_on c.from_residual-in_err-check.ensures.1
     (goes_on _ _ _ c.check_limits.ensures _ c.in_ok-check_limits.was
     (goes_on _ _ _ (c.check_count.ensures ∙ ap (λ (k : ℕ). counted_of k c.args.numbers.now) c.model_size.ensures) _ c.in_ok-check_count.was
     (first-refuses _ _ _ (sym c.in_err-check.ensures))))

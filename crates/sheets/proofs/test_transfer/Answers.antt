@@ -1,6 +1,7 @@
-use Rattle.std.proofs.lemmas.Result.{err_from_is_err_and}
+use Rattle.refusal.proofs.Verdicts.{passed_on}
 use Rattle.sheets.proofs.Shown.{physical_refused, physical_shown}
 use Rattle.sizes.proofs.Small.{four-some, four-most}
+use mathlib.Core.Path.{refl}
 use native.Mathlib.Omega.{arith}
 use Rattle.sheets.proofs.test_transfer.Goals as goal
 
@@ -16,10 +17,7 @@ is_unital-requires c =
     let s = c.requires in (omega (arith, four-most c.args.n s.1, s.2), omega (arith, s.3))
 
 pub returns-in_err-completely_positive : goal.returns-in_err-completely_positive
-returns-in_err-completely_positive c =
-    let q = err_from_is_err_and c.from_residual.result c.from_residual.ensures.1 in
-    rw (q.1, q.2)
-    (physical_refused _ _ _ _ _ c.is_completely_positive.ensures _ c.in_err-completely_positive.was)
+returns-in_err-completely_positive c = rw (passed_on c.from_residual.ensures.1 refl) (physical_refused _ _ _ _ _ c.is_completely_positive.ensures _ c.in_err-completely_positive.was)
 
 pub returns : goal.returns
 returns c = physical_shown _ _ _ _ _ c.is_completely_positive.ensures _ _ _ _ c.requires.2 c.in_ok-completely_positive.was c.is_trace_preserving.ensures c.is_unital.ensures

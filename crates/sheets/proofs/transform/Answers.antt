@@ -1,4 +1,4 @@
-use Rattle.std.proofs.lemmas.Result.{err_from_is_err_and}
+use Rattle.refusal.proofs.Verdicts.{passed_on}
 use Rattle.sheets.proofs.Shown.{model_refused}
 use Rattle.lists.specs.Build.{over}
 use Rattle.model.specs.Checked.{checked_of}
@@ -10,7 +10,5 @@ use Rattle.sheets.proofs.transform.Goals as goal
 pub returns-in_err-check : goal.returns-in_err-check
 unfolding checked_of
 returns-in_err-check c =
-    let q = err_from_is_err_and c.from_residual.result c.from_residual.ensures.1 in
-    rw (q.1, q.2)
-    (let r = model_refused c.args.card.now.bytes.now c.args.card.now.header _ _ c.check.ensures c.in_err-check.was in
-    (r.0, ap (λ (x : List Float). over x c.args.work.now) r.1))
+    let r = model_refused c.args.card.now.bytes.now c.args.card.now.header _ _ c.check.ensures c.in_err-check.was in
+    (passed_on c.from_residual.ensures.1 r.0, ap (λ (x : List Float). over x c.args.work.now) r.1)

@@ -3,7 +3,7 @@ use native.Mathlib.Omega.{arith}
 use lib.Dec.{T}
 use Prim.Native.Nat.{◌%◌}
 use lib.Ieee.{binary64, to_bits}
-use Rattle.significand.proofs.Pattern.{none, no-units, no_nan, Shifted, is-shifted, of_zero, some, of_low, of-high}
+use Rattle.significand.proofs.Pattern.{none, no-units, no_nan, Shifted, is-shifted, of_zero, of_low, of-high}
 use Rattle.significand.proofs.parts_of.Goals as goal
 use Rattle.significand.proofs.parts_of.Goals.{Then-field-eq0}
 
@@ -22,16 +22,22 @@ returns-then-w-eq0 c = none _ (of_zero _ (subst T (sym c.well_formed.0.1) tt) (s
 pub overflow_sub-s : goal.overflow_sub-s
 overflow_sub-s c = omega (arith, (shifted (goal.at.overflow_sub-s c).Then-field-eq0).least)
 
+pub invariant_of-result : goal.invariant_of-result
+invariant_of-result c =
+    let p = of_low _ (subst T (sym c.well_formed.0.1) tt) (sym c.is_finite.ensures ∙ c.if-not-is_finite.false) c.if-w-eq0.false c.if-field-eq0.true in
+    record { low = p.low; high = p.high; reach = p.reach }
+
 pub returns-then-field-eq0 : goal.returns-then-field-eq0
 returns-then-field-eq0 c =
-    let f = subst T (sym c.well_formed.0.1) tt in
-    let h = sym c.is_finite.ensures ∙ c.if-not-is_finite.false in
-    let p = of_low _ f h c.if-w-eq0.false c.if-field-eq0.true in
-    (some _ f h c.if-w-eq0.false, p.0, p.1)
+    let p = of_low _ (subst T (sym c.well_formed.0.1) tt) (sym c.is_finite.ensures ∙ c.if-not-is_finite.false) c.if-w-eq0.false c.if-field-eq0.true in
+    (p.some, p.significand, p.exponent)
+
+pub invariant_of-result-2 : goal.invariant_of-result-2
+invariant_of-result-2 c =
+    let p = of-high _ (subst T (sym c.well_formed.0.1) tt) (sym c.is_finite.ensures ∙ c.if-not-is_finite.false) c.if-field-eq0.false in
+    record { low = p.low; high = p.high; reach = p.reach }
 
 pub returns : goal.returns
 returns c =
-    let f = subst T (sym c.well_formed.0.1) tt in
-    let h = sym c.is_finite.ensures ∙ c.if-not-is_finite.false in
-    let p = of-high _ f h c.if-field-eq0.false in
-    (some _ f h c.if-w-eq0.false, p.0, p.1)
+    let p = of-high _ (subst T (sym c.well_formed.0.1) tt) (sym c.is_finite.ensures ∙ c.if-not-is_finite.false) c.if-field-eq0.false in
+    (p.some, p.significand, p.exponent)

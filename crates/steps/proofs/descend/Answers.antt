@@ -1,6 +1,6 @@
 use mathlib.Core.Path.{refl, ap}
 use Rattle.std.proofs.Common.{Ok, Option}
-use Rattle.std.proofs.lemmas.Result.{err_from_is_err_and}
+use Rattle.refusal.proofs.Verdicts.{passed_on}
 use Rattle.descent.specs.declared.Accepted.{Accepted}
 use Rattle.objective.specs.Tasks.{job_in}
 use Rattle.steps.proofs.Stepping.{level, stalled, lost, accepted}
@@ -14,8 +14,7 @@ returns-then-z-c c =
 pub returns-in_err-found : goal.returns-in_err-found
 returns-in_err-found c =
     let t = c.args.limited.now.task in
-    let q = err_from_is_err_and c.from_residual.result c.from_residual.ensures.1 in
-    rw (q.1, q.2) (lost (job_in t) c.args.r.now c.args.g.now _ c.requires.2 t.placed.few c.args.limited.now.backtracks c.if-z-c.false _ c.in_err-found.ensures.0 _ refl)
+    rw (passed_on c.from_residual.ensures.1 refl) (lost (job_in t) c.args.r.now c.args.g.now _ c.requires.2 t.placed.few c.args.limited.now.backtracks c.if-z-c.false _ c.in_err-found.ensures.0 _ refl)
 
 pub returns-in-None : goal.returns-in-None
 returns-in-None c =

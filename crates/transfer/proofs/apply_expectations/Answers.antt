@@ -1,10 +1,9 @@
 use Rattle.std.proofs.Common.{◌≡◌, Err, arith, refl, sym, ap, ◌∙◌, List}
-use Rattle.std.proofs.lemmas.Result.{err_from_is_err_and}
 use lib.Ieee.{Float}
 use Rattle.lists.proofs.Parts.{over-front}
 use Rattle.lists.specs.Build.{over}
 use Rattle.refusal.specs.Verdicts.{good, checked_numbers}
-use Rattle.refusal.proofs.Verdicts.{first-refuses, second-decides}
+use Rattle.refusal.proofs.Verdicts.{first-refuses, second-decides, passed_on}
 use Rattle.matrix.specs.Product.{mat_vec_of}
 use Rattle.matrix.proofs.Sums.{length-mat-vec}
 use Rattle.transfer.specs.Apply.{applied_of}
@@ -13,19 +12,15 @@ use Rattle.transfer.proofs.apply_expectations.Goals as goal
 
 pub returns-in_err-check_numbers : goal.returns-in_err-check_numbers
 returns-in_err-check_numbers c =
-    let q = err_from_is_err_and c.from_residual.result c.from_residual.ensures.1 in
     let e : Err c.in_err-check_numbers.field-0.0 ≡ applied_of c.args.p c.args.values.now c.args.input.now =
     verdict-is _ _ _ _ _ (checked_numbers c.args.p c.args.input.now) _ c.square.ensures.0 c.check_numbers.ensures refl (first-refuses _ _ _ c.in_err-check_numbers.was) in
-    rw (q.1, q.2)
-    (e, ap (λ (x : List Float). over x c.args.out.now) (refused-numbers _ _ _ _ _ e refl))
+    (passed_on c.from_residual.ensures.1 e, ap (λ (x : List Float). over x c.args.out.now) (refused-numbers _ _ _ _ _ e refl))
 
 pub returns-in_err-check_numbers-2 : goal.returns-in_err-check_numbers-2
 returns-in_err-check_numbers-2 c =
-    let q = err_from_is_err_and c.from_residual-in_err-check_numbers-2.result c.from_residual-in_err-check_numbers-2.ensures.1 in
     let e : Err c.in_err-check_numbers-2.field-0.0 ≡ applied_of c.args.p c.args.values.now c.args.input.now =
     verdict-is _ _ _ _ _ _ _ c.square.ensures.0 c.check_numbers.ensures c.check_numbers-2.ensures (second-decides _ _ _ c.in_ok-check_numbers.was (sym c.in_err-check_numbers-2.was)) in
-    rw (q.1, q.2)
-    (e, ap (λ (x : List Float). over x c.args.out.now) (refused-numbers _ _ _ _ _ e refl))
+    (passed_on c.from_residual-in_err-check_numbers-2.ensures.1 e, ap (λ (x : List Float). over x c.args.out.now) (refused-numbers _ _ _ _ _ e refl))
 
 pub mat_vec-requires : goal.mat_vec-requires
 mat_vec-requires c =

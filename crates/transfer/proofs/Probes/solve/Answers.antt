@@ -3,22 +3,21 @@ use mathlib.Core.Path.{◌≡◌, sym, ap, ◌∙◌}
 use lib.Ieee.{Float}
 use borrow.Author.Rules.{rules}
 use Rattle.std.proofs.Common.{is_ok}
-use Rattle.std.proofs.lemmas.Result.{err_from_is_err_and}
 use Rattle.inversion.proofs.Reductions.{length-inverse}
 use Rattle.inversion.specs.Inversion.{inverse_of}
 use Rattle.lists.proofs.Parts.{front-again}
 use Rattle.lists.specs.Build.{over}
 use Rattle.refusal.specs.declared.Refusal.TheVariants.{SingularProcessDesign}
+use Rattle.refusal.proofs.Verdicts.{passed_on}
 use Rattle.transfer.proofs.Processes.{singular, singular-numbers, length-transfer, product_is, numbers-over, solved}
 use Rattle.transfer.specs.Process.{inputs_of, transfer_of}
 use Rattle.transfer.proofs.Probes.solve.Goals as goal
 
 pub returns-in_err-map_err : goal.returns-in_err-map_err
 returns-in_err-map_err c =
-    let q = err_from_is_err_and c.from_residual.result c.from_residual.ensures.1 in
     let e : c.in_err-map_err.field-0.0 ≡ SingularProcessDesign = search rules in
     let h = sym c.invert_inputs.ensures.0 ∙ (sym c.map_err.ensures.variant ∙ ap is_ok c.in_err-map_err.was) in
-    rw (q.1, q.2, e) (singular _ _ _ h, ap (λ (z : List Float). over z c.args.out.now) (singular-numbers _ _ _ h))
+    (passed_on c.from_residual.ensures.1 (rw e (singular _ _ _ h)), ap (λ (z : List Float). over z c.args.out.now) (singular-numbers _ _ _ h))
 
 pub returns : goal.returns
 returns c =

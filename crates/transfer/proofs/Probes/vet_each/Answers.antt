@@ -1,9 +1,8 @@
 use Rattle.std.proofs.Common.{sym, ap, ◌∙◌, arith}
-use Rattle.std.proofs.lemmas.Result.{err_from_is_err_and}
 use lib.ListN.{length, length-append}
 use Rattle.std.specs.Slice.Iter.{chunks_exact_rest, chunks_exact_size}
 use Rattle.pauli.specs.Density.{vet_of}
-use Rattle.refusal.proofs.Verdicts.{tested-none, tested-more, tested-ends, tested-all}
+use Rattle.refusal.proofs.Verdicts.{tested-none, tested-more, tested-ends, tested-all, passed_on}
 use Rattle.transfer.proofs.Vectors.{from-first, next-vector, no-vector}
 use Rattle.transfer.specs.Vectors.{vetted_of}
 use Rattle.transfer.proofs.Probes.vet_each.Goals as goal
@@ -27,8 +26,7 @@ returns-in_err-vet c =
     let i = c.loop-v.invariant in
     let s = c.in-Some.ensures.steps in
     let n = next-vector _ _ (omega (arith, c.args.self.now.some, c.requires)) (rw (← c.requires) at c.args.self.now.whole) _ _ _ (sym i.2 ∙ s.1.0) (s.1.1 ∙ i.3) in
-    let q = err_from_is_err_and c.from_residual.result c.from_residual.ensures.1 in
-    rw (q.1, q.2) (sym (tested-ends _ _ (length c.loop-v.yielded) _ (omega (arith, n.0)) i.0 (sym (c.in_err-vet.ensures ∙ ap (vet_of c.args.self.now.tolerance) n.1))))
+    passed_on c.from_residual.ensures.1 (sym (tested-ends _ _ (length c.loop-v.yielded) _ (omega (arith, n.0)) i.0 (sym (c.in_err-vet.ensures ∙ ap (vet_of c.args.self.now.tolerance) n.1))))
 
 pub returns : goal.returns
 unfolding vetted_of

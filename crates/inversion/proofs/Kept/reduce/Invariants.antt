@@ -2,7 +2,7 @@ use mathlib.Core.Bool.{true}
 use Rattle.lists.specs.Fold.{fold}
 use Rattle.inversion.specs.Inversion.{beside_identity, rows, column_reduced}
 use Rattle.inversion.specs.Held.{Held}
-use Rattle.inversion.proofs.kept.Kept.reduce.Given as goal
+use Rattle.inversion.proofs.Kept.reduce.Given as goal
 
 abbrev pub invariant-loop-k : goal.invariant-loop-k
 invariant-loop-k l =

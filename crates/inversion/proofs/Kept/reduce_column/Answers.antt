@@ -1,5 +1,5 @@
 use Rattle.inversion.proofs.Reductions.{ends-here, goes_on}
-use Rattle.inversion.proofs.kept.Kept.reduce_column.Goals as goal
+use Rattle.inversion.proofs.Kept.reduce_column.Goals as goal
 
 pub returns-then-size_at-limit : goal.returns-then-size_at-limit
 returns-then-size_at-limit c =

@@ -3,7 +3,7 @@ use mathlib.Core.Path.{refl}
 use native.Mathlib.Omega.{arith}
 use Rattle.std.proofs.lemmas.Result.{err_from_is_err_and}
 use Rattle.inversion.proofs.Reductions.{stands-first, stands-next, ended-last}
-use Rattle.inversion.proofs.kept.Kept.reduce.Goals as goal
+use Rattle.inversion.proofs.Kept.reduce.Goals as goal
 
 pub loop-k-init : goal.loop-k-init
 loop-k-init c = (refl, stands-first _ _ _ _ _ _ c.args.self.now.placed c.number_places.ensures c.start_rows.ensures)
