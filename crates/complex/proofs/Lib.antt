@@ -1,2 +1,3 @@
 mod Magnitudes
-pub mod Bounds
+pub mod Lengths
+pub mod Lanes

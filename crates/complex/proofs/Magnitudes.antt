@@ -5,9 +5,6 @@ use mathlib.Core.List.{List, [], ◌∷◌, foldr}
 use lib.Dec.{T, eqb}
 use lib.Ieee as Ieee
 use Rattle.numbers.specs.Number.{number, word, abs, max, negative}
-use Rattle.rounding.specs.Units.{units_of}
-use Rattle.significand.specs.Significand.{significand_of, exponent_of}
-use Rattle.root.specs.Root.{floor_root, near_root, root_of, sqrt}
 use Rattle.complex.specs.Arithmetic.{min, magnitude}
 
 rows : List (ℕ × ℕ × ℕ)
@@ -31,5 +28,5 @@ right : ℕ × ℕ × ℕ → Bool
 right (a, b, m) = eqb (word (magnitude (record { re = number a; im = number b }))) m
 
 magnitudes : T (foldr (λ r b. right r && b) true rows)
-unfolding rows right magnitude min max abs negative sqrt root_of near_root floor_root significand_of exponent_of units_of Ieee.of_bits Ieee.to_bits Ieee.add Ieee.mul Ieee.div Ieee.eq Ieee.lt Ieee.is_nan Ieee.size Ieee.odd
+unfolding rows right magnitude min max abs negative Ieee.of_bits Ieee.to_bits Ieee.add Ieee.mul Ieee.div Ieee.sqrt Ieee.eq Ieee.lt Ieee.is_nan Ieee.size Ieee.odd
 magnitudes = tt

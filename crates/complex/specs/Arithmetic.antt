@@ -1,7 +1,7 @@
 -- Arithmetic of complex numbers, by parts, as document 01 has it. Each operation on parts is rounded.
 use Rattle.std.specs.Prelude.{cond, Float}
 use Rattle.std.specs.Float.Ieee as Ieee
-use Rattle.numbers.specs.Number.{number, ◌+ᶠ◌, ◌-ᶠ◌, ◌*ᶠ◌, ◌/ᶠ◌, abs, max, zero_f, one_f}
+use Rattle.numbers.specs.Number.{◌+ᶠ◌, ◌-ᶠ◌, ◌*ᶠ◌, ◌/ᶠ◌, abs, max, zero_f, one_f}
 use Rattle.root.specs.Root.{sqrt}
 use Rattle.complex.specs.declared.Complex.{Complex}
 
@@ -36,20 +36,6 @@ magnitude z =
     let q = min (abs z.re) (abs z.im) /ᶠ m in
     cond (Ieee.eq m zero_f) zero_f (m *ᶠ sqrt (one_f +ᶠ q *ᶠ q))
 
--- 9/8, 23/16 and 23/8
-abbrev pub near_f : Float
-near_f = number 0x3ff2000000000000
-
-abbrev pub far_f : Float
-far_f = number 0x3ff7000000000000
-
-abbrev pub twice_far_f : Float
-twice_far_f = number 0x4007000000000000
-
--- A bound of the magnitude that takes no root: 9/8 of m where s is less than half of it, and 23/16 of m else. That it is one is proved in proofs/Bounds.antt.
--- Both sides of the test are rounded; where that hides that s is less, the bound is the larger of the two.
-unfoldable pub bound : Complex → Float
-bound z =
-    let m = max (abs z.re) (abs z.im) in
-    let s = min (abs z.re) (abs z.im) in
-    cond (Ieee.lt (s *ᶠ twice_far_f) (m *ᶠ far_f)) (m *ᶠ near_f) (m *ᶠ far_f)
+-- of the parts x and y
+abbrev pub magnitude_by : Float → Float → Float
+magnitude_by x y = magnitude (record { re = x; im = y })

@@ -1,32 +1,19 @@
 // Complex numbers, by value.
-#![tactic(auto, unfolding(crate::specs::Arithmetic::plus, crate::specs::Arithmetic::minus, crate::specs::Arithmetic::times, crate::specs::Arithmetic::scaled, crate::specs::Arithmetic::divided, crate::specs::Arithmetic::conjugate, crate::specs::Arithmetic::magnitude, crate::specs::Arithmetic::bound))]
+#![tactic(auto, unfolding(crate::specs::Arithmetic::plus, crate::specs::Arithmetic::minus, crate::specs::Arithmetic::times, crate::specs::Arithmetic::scaled, crate::specs::Arithmetic::divided, crate::specs::Arithmetic::conjugate))]
 
-ghost use Rattle.std.specs.Prelude.{◌≡◌};
+ghost use Rattle.std.specs.Prelude.{◌≡◌, ◌≤◌, length, map};
+ghost use Rattle.std.specs.Simd.Lanes.{zip2};
+ghost use Rattle.root.specs.Root.{sqrt};
 ghost use Rattle.numbers.specs.Number.{zero_f};
-ghost use Rattle.complex.specs.Arithmetic.{plus, minus, times, scaled, divided, conjugate, min, magnitude, bound};
+ghost use Rattle.complex.specs.Arithmetic.{plus, minus, times, scaled, divided, conjugate, magnitude, magnitude_by};
 
 use std::ops::{Add, Div, Mul, Sub};
+use std::simd::prelude::*;
 
 #[derive(Clone, Copy, Debug, PartialEq)]
 pub struct Complex {
     pub re: f64,
     pub im: f64,
-}
-
-// The smaller of x and y: of a NaN and another the other. `f64::min` leaves open which of two equal numbers it gives, and the definition fixes their bits.
-fn min_of(x: f64, y: f64) -> f64
-    ensures { result ≡ min x y }
-{
-    if x.is_nan() {
-        return y;
-    }
-    if y.is_nan() {
-        return x;
-    }
-    if y < x {
-        return y;
-    }
-    x
 }
 
 impl From<f64> for Complex {
@@ -113,30 +100,46 @@ impl Complex {
         }
     }
 
+    /// m·sqrt(1 + (s/m)²), m the larger part's size and s the smaller one's: no square is too large.
+    /// A NaN beside a number counts as that number, and an infinity in both parts gives a NaN.
     pub fn magnitude(self) -> f64
         ensures { result ≡ magnitude self }
     {
-        let a = numbers::abs_of(self.re);
-        let b = numbers::abs_of(self.im);
-        let m = numbers::max_of(a, b);
-        if m == 0.0 {
-            return 0.0;
-        }
-        let q = min_of(a, b) / m;
-        m * root::sqrt_from_one(1.0 + q * q)
+        let [size] = magnitudes_of(
+            Simd::from_array([self.re]),
+            Simd::from_array([self.im]),
+        ).to_array();
+        size
     }
+}
 
-    // What the magnitude is at most. It costs a small part of it.
-    pub fn bound(self) -> f64
-        ensures { result ≡ bound self }
-    {
-        let a = numbers::abs_of(self.re);
-        let b = numbers::abs_of(self.im);
-        let m = numbers::max_of(a, b);
-        let far = m * 1.4375;
-        if min_of(a, b) * 2.875 < far {
-            return m * 1.125;
-        }
-        far
+// The roots of all lanes.
+fn roots<const N: usize>(x: Simd<f64, N>) -> Simd<f64, N>
+    requires { (length x ≡ N) × (N ≤ 64) }
+    ensures { result ≡ map sqrt x.entry }
+{
+    let x = x.to_array();
+    let mut lanes = x;
+    for (i, y) in lanes.iter_mut().enumerate() {
+        *y = root::sqrt(x[i]);
     }
+    Simd::from_array(lanes)
+}
+
+/// The magnitude of each lane, whose real part is in `re` and whose imaginary part is in `im`.
+// A division and a root take no longer for two numbers than for one.
+pub fn magnitudes_of<const N: usize>(re: Simd<f64, N>, im: Simd<f64, N>) -> Simd<f64, N>
+    requires { (length re ≡ N) × (length im ≡ N) × (N ≤ 64) }
+    ensures { result ≡ zip2 magnitude_by re.entry im.entry }
+{
+    let zero = Simd::splat(0.0);
+    // Sizes, but for a -0: no comparison and no square tells it from +0.
+    let a = re.simd_lt(-re).select(-re, re);
+    let b = im.simd_lt(-im).select(-im, im);
+    // Where b is a NaN, a stands for it.
+    let c = b.simd_eq(b).select(b, a);
+    let m = c.simd_le(a).select(a, c);
+    let q = a.simd_le(c).select(a, c) / m;
+    let r = m * roots(Simd::splat(1.0) + q * q);
+    m.simd_eq(zero).select(zero, r)
 }

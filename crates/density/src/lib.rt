@@ -84,26 +84,27 @@ fn mix(v: &[f64], n: usize, p: &[f64], out: &mut [f64])
     }
 }
 
-// The projection at the front of `out`, once estimate and tolerance are admitted.
-fn project(
+// The projection at the front of `out`, once estimate and tolerance are admitted. Each of its two rooms
+// has ROOM numbers.
+fn project<const ROOM: usize>(
     e: &[f64],
     n: usize,
     tolerance: f64,
     rotations: u64,
     out: &mut [f64],
 ) -> Result<(), Refusal>
-    requires { (length e.now ≡ 2 * (n * n)) × (0 < n) × (n ≤ 16) × (2 * (n * n) ≤ length out.old) }
+    requires { (length e.now ≡ 2 * (n * n)) × (0 < n) × (n ≤ 16) × (2 * (n * n) ≤ length out.old) × (2 * (n * n) ≤ ROOM) × (ROOM ≤ 512) }
     ensures { (result ≡ spec.spectral_verdict n (spec.spectrum_of n tolerance rotations e.now))
         × (out.new ≡ over (spec.where_good result (spec.spectral_numbers n (spec.spectrum_of n tolerance rotations e.now))) out.old) }
 {
-    let mut v = [0.0; 512];
+    let mut v = [0.0; ROOM];
     let mut w = [0.0; 16];
-    let mut r = [0.0; 512];
+    let mut r = [0.0; ROOM];
     let v = &mut v[..e.len()];
     let w = &mut w[..n];
     let r = &mut r[..e.len()];
     halve(e, n, v);
-    eigen::eigen(v, n, tolerance, rotations, w).map_err(|_| Refusal::EigensolverDidNotConverge)?;
+    eigen::eigen(v, n, tolerance, rotations, r, w).map_err(|_| Refusal::EigensolverDidNotConverge)?;
     filling::fill(w);
     mix(v, n, w, r);
     refusal::finite_or(Refusal::Operator, r)?;
@@ -120,18 +121,20 @@ fn admit(tolerance: f64, e: &[f64]) -> Result<(), Refusal>
     refusal::check_tolerance(tolerance)
 }
 
-// The Rust's `project_density_with_tolerance`, with a limit on the rotations of `eig`. A good call leaves the density matrix at the front of `out`, real and
-// imaginary part of each entry by rows; a refused one leaves `out` as it is.
-pub fn project_density(
+/// The Rust's `project_density_with_tolerance`, with a limit on the rotations of `eig`. A good call
+/// leaves the density matrix at the front of `out`, real and imaginary part of each entry by rows; a
+/// refused one leaves `out` as it is. ROOM numbers have to hold a matrix; setting many to zero is no
+/// small part of a projection at d 4.
+pub fn project_density<const ROOM: usize>(
     estimate: &[f64],
     d: usize,
     tolerance: f64,
     rotations: u64,
     out: &mut [f64],
 ) -> Result<(), Refusal>
-    requires { (length estimate.now ≡ 2 * (d * d)) × (0 < d) × (d ≤ 16) × (2 * (d * d) ≤ length out.old) }
+    requires { (length estimate.now ≡ 2 * (d * d)) × (0 < d) × (d ≤ 16) × (2 * (d * d) ≤ length out.old) × (2 * (d * d) ≤ ROOM) × (ROOM ≤ 512) }
     ensures { (result ≡ spec.projected_verdict d tolerance rotations estimate.now) × (out.new ≡ over (spec.projected_numbers d tolerance rotations estimate.now) out.old) }
 {
     admit(tolerance, estimate)?;
-    project(estimate, d, tolerance, rotations, out)
+    project::<ROOM>(estimate, d, tolerance, rotations, out)
 }

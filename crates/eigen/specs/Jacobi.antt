@@ -1,5 +1,5 @@
 -- Classical Jacobi on a Hermitian matrix (Golub and Van Loan, section 8.5): the largest entry above the diagonal is rotated to zero, until it is small.
-use Rattle.std.specs.Prelude.{Bool, true, false, cond, List, [], ℕ, zero, suc, eqb, get_or, Float}
+use Rattle.std.specs.Prelude.{Bool, true, false, cond, List, ℕ, zero, suc, eqb, get_or, Float}
 use Rattle.std.specs.Float.Ieee.{le}
 use Rattle.lists.specs.Build.{build}
 use Rattle.numbers.specs.Number.{zero_f, one_f, ◌*ᶠ◌}
@@ -14,12 +14,12 @@ pub data Turns : Type 0 where
   done : List Complex → List Complex → Turns
   used_up : Turns
 
--- k rotations at most of the matrix a and of the r rows of vectors v, each after a test: what the last one gives is not tested
-unfoldable pub jacobi : ℕ → ℕ → ℕ → Float → List Complex → List Complex → Turns
-jacobi zero r n limit a v = used_up
-jacobi (suc k) r n limit a v =
+-- k rotations at most of the n by n matrix a and of the vectors v, each after a test: what the last one gives is not tested
+unfoldable pub jacobi : ℕ → ℕ → Float → List Complex → List Complex → Turns
+jacobi zero n limit a v = used_up
+jacobi (suc k) n limit a v =
     let t = turn_of n a (pivot_of n a) in
-    elim (le (pivot_of n a).best limit) [ true ↦ done a v | false ↦ jacobi k r n limit (turned n t a) (columns_turned r n t v) ]
+    elim (le (pivot_of n a).best limit) [ true ↦ done a v | false ↦ jacobi k n limit (turned n t a) (columns_turned n n t v) ]
 
 -- what a run says, and what it leaves
 unfoldable pub ran : Bool → List Complex → List Complex → Turns
@@ -53,14 +53,14 @@ ascending n used_up = unknown
 
 -- the eigenvalues and vectors of the n by n matrix a: entries above the diagonal are small beside tolerance times the scale
 unfoldable pub eig_of : ℕ → Float → ℕ → List Complex → Spectrum
-eig_of n tolerance rotations a = ascending n (jacobi rotations n n (tolerance *ᶠ scale_of n a) a (unit n))
+eig_of n tolerance rotations a = ascending n (jacobi rotations n (tolerance *ᶠ scale_of n a) a (unit n))
 
 -- what is said, and what is left
 unfoldable pub told : Bool → List Float → List Complex → Spectrum
 told true w v = spectrum w v
 told false w v = unknown
 
--- the eigenvalues alone, with no vectors: the same as with them (proofs/Alone.antt)
+-- the eigenvalues, or that the rotations are used up
 pub data Values : Type 0 where
   values : List Float → Values
   unknown_values : Values
@@ -69,13 +69,6 @@ pub data Values : Type 0 where
 unfoldable pub values_of : Spectrum → Values
 values_of (spectrum w v) = values w
 values_of unknown = unknown_values
-
-unfoldable pub ascending_values : ℕ → Turns → Values
-ascending_values n (done a v) = values (sorted (diagonal n a))
-ascending_values n used_up = unknown_values
-
-unfoldable pub eigenvalues_of : ℕ → Float → ℕ → List Complex → Values
-eigenvalues_of n tolerance rotations a = ascending_values n (jacobi rotations 0 n (tolerance *ᶠ scale_of n a) a [])
 
 unfoldable pub told_values : Bool → List Float → Values
 told_values true w = values w

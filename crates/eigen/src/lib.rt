@@ -1,5 +1,5 @@
-// Eigenvalues and eigenvectors of a Hermitian matrix by classical Jacobi. The tolerance and the most rotations are two numbers of a card that owe one another nothing,
-// and go through as they are.
+//! Eigenvalues and eigenvectors of a Hermitian matrix by classical Jacobi. The tolerance and the most
+//! rotations are two numbers of a card that owe one another nothing, and go through as they are.
 #![tactic(auto, using(lists::proofs::Folding::fold_more), unfolding(lists::specs::Fold::fold, entries::specs::Laid::laid_row, crate::specs::Jacobi::unit_at, crate::specs::Jacobi::ran))]
 
 ghost use Rattle.std.specs.Prelude.{◌≡◌, ℕ, ◌*◌, ◌≤◌, ◌<◌, length, get_or, is_ok};
@@ -9,25 +9,25 @@ ghost use Rattle.entries.specs.Laid.{laid_row};
 ghost use Rattle.magnitudes.specs.Pivot.{scale_of};
 ghost use Rattle.sorting.specs.Sort.{order_of, sorted};
 ghost use Rattle.eigen.specs.Jacobi as spec;
-ghost use Rattle.eigen.specs.Steps.{Stepped};
+ghost use Rattle.eigen.specs.Steps.{Stepped, jacobi_with};
 
 use complex::Complex;
-use magnitudes::{Notes, Pivot};
+use magnitudes::{Magnitudes, Pivot};
 
-// The rotations are used up, and the largest entry above the diagonal is not small.
+/// The rotations are used up; what the last one gives is not tested.
 #[derive(Clone, Copy, Debug, PartialEq, Eq)]
 pub struct NotConverged;
 
-// One rotation at the pivot g, of the matrix and of the r rows of vectors, and the notes of what it changed.
-fn step(a: &mut [f64], v: &mut [f64], r: usize, n: usize, g: Pivot, notes: &mut Notes<256>)
+// One rotation at the pivot g, of the matrix, of the r rows of vectors and of the magnitudes that are
+// kept.
+fn step(a: &mut [f64], v: &mut [f64], r: usize, n: usize, g: Pivot, kept: &mut Magnitudes)
     requires { (length a.old ≡ 2 * (n * n)) × (length v.old ≡ 2 * (r * n)) × (n ≤ 16) × (g.p < n) × (g.q < n) }
-    ensures { Stepped r n g (entries a.old) (entries v.old) notes.old (entries a.new) (entries v.new) notes.new }
+    ensures { Stepped r n g (entries a.old) (entries v.old) kept.old.cells (entries a.new) (entries v.new) kept.new.cells }
 {
     let t = turns::turn_of(a, n, g);
     turns::rotate(a, n, t);
+    kept.renew(a, n, g.p, g.q);
     turns::turn_columns(v, r, n, t);
-    notes.renote(a, n, g.p);
-    notes.renote(a, n, g.q);
 }
 
 // Rotations of the matrix and of the r rows of vectors, until the pivot is small beside the scale.
@@ -40,17 +40,17 @@ fn run(
     rotations: u64,
 ) -> Result<(), NotConverged>
     requires { (length a.old ≡ 2 * (n * n)) × (length v.old ≡ 2 * (r * n)) × (0 < n) × (n ≤ 16) }
-    ensures { spec.ran (is_ok result) (entries a.new) (entries v.new) ≡ spec.jacobi rotations r n (tolerance *ᶠ scale_of n (entries a.old)) (entries a.old) (entries v.old) }
+    ensures { spec.ran (is_ok result) (entries a.new) (entries v.new) ≡ jacobi_with rotations r n (tolerance *ᶠ scale_of n (entries a.old)) (entries a.old) (entries v.old) }
 {
-    let mut notes = Notes::<256>::of(a, n);
+    let mut kept = Magnitudes::of(a, n);
     let limit = tolerance * magnitudes::scale(a, n);
     // So many at most: nothing is gone over.
     for _ in 0..rotations {
-        let g = notes.find(a, n);
+        let g = kept.pivot(n);
         if g.best <= limit {
             return Ok(());
         }
-        step(a, v, r, n, g, &mut notes);
+        step(a, v, r, n, g, &mut kept);
     }
     Err(NotConverged)
 }
@@ -122,20 +122,21 @@ fn ascend(a: &[f64], n: usize, order: &mut [usize], w: &mut [f64])
     sorting::arrange(false, d, order, w);
 }
 
-// The eigenvalues of the n by n Hermitian matrix in a, ascending, into w, and their vectors, in columns, into a.
+/// The eigenvalues of the n by n Hermitian matrix in `a`, ascending, into `w`, and their vectors, in
+/// columns, into `a`. `v` is room; what is left in it is not said, nor, where the rotations are used
+/// up, what is left in `a` and `w`.
 pub fn eigen(
     a: &mut [f64],
     n: usize,
     tolerance: f64,
     rotations: u64,
+    v: &mut [f64],
     w: &mut [f64],
 ) -> Result<(), NotConverged>
-    requires { (length a.old ≡ 2 * (n * n)) × (length w.old ≡ n) × (0 < n) × (n ≤ 16) }
+    requires { (length a.old ≡ 2 * (n * n)) × (length v.old ≡ 2 * (n * n)) × (length w.old ≡ n) × (0 < n) × (n ≤ 16) }
     ensures { spec.told (is_ok result) w.new (entries a.new) ≡ spec.eig_of n tolerance rotations (entries a.old) }
 {
-    let mut v = [0.0; 512];
     let mut order = [0; 16];
-    let v = &mut v[..2 * n * n];
     let order = &mut order[..n];
     unit(v, n);
     run(a, v, n, n, tolerance, rotations)?;
@@ -144,22 +145,20 @@ pub fn eigen(
     Ok(())
 }
 
-// The eigenvalues alone, into w. The matrix is copied and stays as it is.
+/// The eigenvalues alone, into `w`: those that `eigen` gives, without the vectors. What is left in `a`
+/// is not said, nor, where the rotations are used up, what is left in `w`.
 pub fn eigenvalues(
-    a: &[f64],
+    a: &mut [f64],
     n: usize,
     tolerance: f64,
     rotations: u64,
     w: &mut [f64],
 ) -> Result<(), NotConverged>
-    requires { (length a.now ≡ 2 * (n * n)) × (length w.old ≡ n) × (0 < n) × (n ≤ 16) }
-    ensures { spec.told_values (is_ok result) w.new ≡ spec.eigenvalues_of n tolerance rotations (entries a.now) }
+    requires { (length a.old ≡ 2 * (n * n)) × (length w.old ≡ n) × (0 < n) × (n ≤ 16) }
+    ensures { spec.told_values (is_ok result) w.new ≡ spec.values_of (spec.eig_of n tolerance rotations (entries a.old)) }
 {
-    let mut m = [0.0; 512];
     let mut order = [0; 16];
-    let m = &mut m[..a.len()];
-    m.copy_from_slice(a);
-    run(m, &mut [], 0, n, tolerance, rotations)?;
-    ascend(m, n, &mut order[..n], w);
+    run(a, &mut [], 0, n, tolerance, rotations)?;
+    ascend(a, n, &mut order[..n], w);
     Ok(())
 }

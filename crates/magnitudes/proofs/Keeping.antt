@@ -1,314 +1,323 @@
--- What is noted stays right, and the pivot found by it is the matrix's. Assumes nothing.
+-- The cells hold the matrix's magnitudes from the start, and again after each rotation. Assumes nothing.
 use mathlib.Core.Path.{◌≡◌, refl, sym, ◌∙◌, ap, subst}
 use mathlib.Core.Bool.{Bool, true, false, cond}
-use mathlib.Core.Logic.{◌⊎◌, inl, inr, ⊎_elim}
+use mathlib.Core.Logic.{◌⊎◌, inl, inr}
 use mathlib.Core.List.{List}
 use Prim.Native.Nat.{ℕ, zero, suc, ◌+◌, ◌-◌, ◌*◌, ◌<◌, ◌≤◌}
+use native.Mathlib.Nat.{eq-or-lt_of_le, le_of_suc-le-suc, not-suc-le-zero}
 use native.Mathlib.Omega.{arith}
-use native.Mathlib.Nat.{eq-or-lt_of_le, le_of_suc-le-suc, lt_of_lt_of_le}
 use lib.Dec.{eqb, ltb}
-use lib.ListN.{length, get_or, set, length-set}
-use Rattle.std.proofs.lemmas.List.{length-replicate}
+use lib.ListN.{length, get_or, set, replicate, length-set}
 use lib.Seq.{get_or-set_same, get_or-set_other}
-use lib.Ieee.{Float, nan, inf, fin, lt, le, neg, is_nan, of_bits}
-use borrow.Author.Tests.{lt-ltb, le-ltb, eqb-true, eqb-false}
+use lib.Ieee.{Float, nan, lt}
+use borrow.Author.Tests.{eqb-true, eqb-false, ne_eqb, lt-ltb, le-ltb, ltb-true, ltb-false}
+use Rattle.std.proofs.lemmas.List.{length-replicate, get_or-replicate}
 use Rattle.lists.specs.Fold.{fold}
-use Rattle.lists.proofs.Folding.{fold-keeps, fold_more}
-use Rattle.lists.proofs.Parts.{entry-fits}
-use Rattle.numbers.specs.Number.{zero_f, max, negative}
-use Rattle.numbers.specs.Slice.{at}
-use Rattle.numbers.proofs.Leaves.{clash}
-use Rattle.numbers.proofs.Order.{not-above}
-use Rattle.complex.proofs.Bounds.{bound-holds}
+use Rattle.lists.proofs.Folding.{fold-keeps}
+use Rattle.numbers.specs.Number.{zero_f}
 use Rattle.complex.specs.declared.Complex.{Complex}
-use Rattle.complex.specs.Arithmetic.{magnitude, bound}
-use Rattle.entries.specs.Entries.{nowhere, entry_at}
-use Rattle.magnitudes.specs.declared.Notes.{Notes}
+use Rattle.complex.specs.Arithmetic.{magnitude}
+use Rattle.entries.specs.Entries.{entry_at}
 use Rattle.magnitudes.specs.declared.Pivot.{Pivot}
-use Rattle.magnitudes.specs.Pivot.{larger, pivot_in, pivot_of, no_pivot, scale_by, scale_of, smallest_normal}
-use Rattle.magnitudes.specs.Notes.{blank, found, Noted, Kept, Search, measured, unsized, widened, noted, noted_cross, renoted, sized_at, looked, looked_in, searched}
+use Rattle.magnitudes.specs.Pivot.{larger, no_pivot, pivot_in, pivot_of}
+use Rattle.magnitudes.specs.Kept.{cell, upper, Kept, put, filled_row, filled, renewed_row, renewed, column, column_found}
 
--- a known magnitude is a fair note
-pub size-fair : (z : Complex) → Noted z (magnitude z) (magnitude z)
-size-fair z = record { skipped = λ b h. not-above (magnitude z) b h; known = λ _. refl }
-
--- a bound alone is one too
-pub bound-fair : (z : Complex) → Noted z (bound z) unsized
-unfolding lt neg of_bits
-bound-fair z = record { skipped = bound-holds z; known = λ h. clash (sym h) }
-
--- both lists have a number for each entry
-abbrev pub Long : {room : ℕ} → ℕ → Notes room → Type 0
-Long n w = (n * n ≤ length w.bounds) × (n * n ≤ length w.sizes)
-
--- a turn of a loop from a on
-pub fold_from : {S : Type 0} (g : ℕ → S → S) (a j : ℕ) (s₀ s t : S) → a ≤ j → s ≡ fold (j - a) (λ d. g (a + d)) s₀ → t ≡ g j s → t ≡ fold (j + 1 - a) (λ d. g (a + d)) s₀
-fold_from g a j s₀ s t h e p =
-    let q : j + 1 - a ≡ j - a + 1 = omega arith in
-    let k : a + (j - a) ≡ j = omega arith in
-    rw q (fold_more (λ d. g (a + d)) (j - a) s₀ s t e (rw k p))
-
--- room for as many entries as the matrix has
-pub long-blank : {room : ℕ} → (n : ℕ) → n * n ≤ room → Long {room = room} n blank
-long-blank n h = (simp length-replicate h, simp length-replicate h)
-
--- ---- the note of entry x, where that of entry k is written
-
--- what is noted at k
-abbrev Fair : {room : ℕ} → List Complex → ℕ → Notes room → Type 0
-Fair a x w = Noted (get_or a x nowhere) (at w.bounds x) (at w.sizes x)
-
-module _ {room : ℕ} (a : List Complex) (k x : ℕ) (w : Notes room) (b s : Float) (l : k < length w.bounds) (m : k < length w.sizes) (fair : Noted (get_or a k nowhere) b s) where
-  -- the new note is fair, and another stays what it was
-  pub write-fair : (x ≡ k) ⊎ Fair a x w → Fair {room = room} a x (record { bounds = set w.bounds k b; sizes = set w.sizes k s })
-  write-fair h = go (eqb x k) refl h
-    where
-      go : (t : Bool) → eqb x k ≡ t → (x ≡ k) ⊎ Fair a x w → Fair {room = room} a x (record { bounds = set w.bounds k b; sizes = set w.sizes k s })
-      go true e h =
-          let q : x ≡ k = eqb-true x k e in
-          rw (q, get_or-set_same w.bounds k b nan l, get_or-set_same w.sizes k s nan m) fair
-      go false e (inl q) = absurd (eqb-false x k e q)
-      go false e (inr f) = rw (get_or-set_other w.bounds k x b nan (eqb-false x k e), get_or-set_other w.sizes k x s nan (eqb-false x k e)) f
-
-pub long-noted : {room : ℕ} → (n : ℕ) (a : List Complex) (k : ℕ) (w : Notes room) → Long n w → Long n (noted a k w)
-unfolding noted
-long-noted n a k w l = (simp length-set l.0, simp length-set l.1)
-
-note-fair : {room : ℕ} → (n : ℕ) (a : List Complex) (k x : ℕ) (w : Notes room) → k < n * n → Long n w → (x ≡ k) ⊎ Fair a x w → Fair a x (noted a k w)
-unfolding noted
-note-fair n a k x w h l f = write-fair a k x w _ _ (lt_of_lt_of_le h l.0) (lt_of_lt_of_le h l.1) (bound-fair (get_or a k nowhere)) f
-
--- ---- all entries
-
-module _ {room : ℕ} (n : ℕ) (a : List Complex) (w : Notes room) (long : Long n w) where
-  long-all : (m : ℕ) → Long n (fold m (noted a) w)
-  unfolding fold
-  long-all zero = long
-  long-all (suc m) = long-noted n a m _ (long-all m)
-
-  fair-all : (m x : ℕ) → m ≤ n * n → x < m → Fair a x (fold m (noted a) w)
-  unfolding fold
-  fair-all zero x h l = absurd (omega arith)
-  fair-all (suc m) x h l =
-      note-fair n a m x _ h (long-all m)
-      (⊎_elim (λ (e : x ≡ m). inl e) (λ (k : x < m). inr (fair-all m x (omega arith) k)) (eq-or-lt_of_le (le_of_suc-le-suc l)))
-
-  pub long-measured : Long n (measured n a w)
-  unfolding measured
-  long-measured = long-all (n * n)
-
-  pub kept-first : Kept n a (measured n a w)
-  unfolding measured
-  kept-first i j h l = fair-all (n * n) (i * n + j) (omega arith) (entry-fits i j n n (omega arith) l)
-
--- ---- the search
-
--- what was found is the pivot g, and the notes are still right
-abbrev pub Good : {room : ℕ} → ℕ → List Complex → Search room → Pivot → Type 0
-Good n a f g = (f.pivot ≡ g) × Long n f.notes × Kept n a f.notes
-
-module _ (n : ℕ) (a : List Complex) where
-  good-looked : {room : ℕ} → (i j : ℕ) (f : Search room) (g : Pivot) → i < j → j < n → Good n a f g → Good n a (looked a (i * n + j) i j f) (larger (magnitude (entry_at n a i j)) i j g)
-  unfolding looked larger sized_at
-  good-looked i j f g h l (e, long, kept) = go _ _ refl refl
-    where
-      inside : i * n + j < n * n
-      inside = entry-fits i j n n (omega arith) l
-
-      go : (x y : Bool) → le (at f.notes.bounds (i * n + j)) f.pivot.best ≡ x → lt (at f.notes.sizes (i * n + j)) zero_f ≡ y
-          → Good n a (looked a (i * n + j) i j f) (larger (magnitude (entry_at n a i j)) i j g)
-      go true y s t = rw (s, ← e, (kept i j h l).skipped f.pivot.best s) (refl, long, kept)
-      go false true s t =
-          rw (s, t, ← e) (
-            refl,
-            (simp length-set long.0, simp length-set long.1),
-            λ i' j' h' l'.
-                write-fair a (i * n + j) (i' * n + j') f.notes _ _ (lt_of_lt_of_le inside long.0) (lt_of_lt_of_le inside long.1) (size-fair (entry_at n a i j)) (inr (kept i' j' h' l')),
-          )
-      go false false s t = rw (s, t, ← e, (kept i j h l).known t) (refl, long, kept)
-
-  good-row : {room : ℕ} → (i d : ℕ) (f : Search room) (g : Pivot) → d ≤ n - (i + 1) → Good n a f g
-      → Good n a (fold d (λ d. looked a (i * n + (i + 1 + d)) i (i + 1 + d)) f) (fold d (λ d. larger (magnitude (entry_at n a i (i + 1 + d))) i (i + 1 + d)) g)
-  unfolding fold
-  good-row i zero f g h p = p
-  good-row i (suc d) f g h p = good-looked i (i + 1 + d) _ _ (omega arith) (omega arith) (good-row i d f g (omega arith) p)
-
-  good-rows : {room : ℕ} → (m : ℕ) (f : Search room) (g : Pivot) → Good n a f g → Good n a (fold m (looked_in n a) f) (fold m (pivot_in n a) g)
-  unfolding fold looked_in pivot_in
-  good-rows zero f g p = p
-  good-rows (suc m) f g p = good-row m (n - (m + 1)) _ _ (omega arith) (good-rows m f g p)
-
-  -- the search by notes finds the pivot, and keeps the notes right
-  pub good-search : {room : ℕ} → (w : Notes room) → Long n w → Kept n a w → Good n a (searched n a w) (pivot_of n a)
-  unfolding searched pivot_of
-  good-search w l k = good-rows n (record { pivot = no_pivot; notes = w }) no_pivot (refl, l, k)
-
--- the pivot's place is in the matrix
-abbrev pub Within : ℕ → Pivot → Type 0
-Within n g = (g.p < n) × (g.q < n)
-
-pub pivot-within : (n : ℕ) (a : List Complex) → 0 < n → Within n (pivot_of n a)
-unfolding pivot_of pivot_in larger
-pivot-within n a h =
-    fold-keeps (pivot_in n a) (Within n) n no_pivot (h, h)
-    (λ i g l p.
-    fold-keeps (λ d. larger (magnitude (entry_at n a i (i + 1 + d))) i (i + 1 + d)) (Within n) (n - (i + 1)) g p
-    (λ d t m r. go i (i + 1 + d) t (magnitude (entry_at n a i (i + 1 + d))) l (omega arith) r))
+-- what step k of a loop makes, and each keeps; Q holds throughout
+fold-reaches : {S : Type 0} (f : ℕ → S → S) (Q P : S → Type 0) (m k : ℕ) (s : S) → k < m → Q s → ((i : ℕ) (t : S) → i < m → Q t → Q (f i t)) → ((t : S) → Q t → P (f k t))
+    → ((i : ℕ) (t : S) → i < m → Q t → P t → P (f i t)) → P (fold m f s)
+unfolding fold
+fold-reaches f Q P zero k s h q a b c = absurd (not-suc-le-zero h)
+fold-reaches f Q P (suc m) k s h q a b c =
+    go (eq-or-lt_of_le (le_of_suc-le-suc h)) (λ l. fold-reaches f Q P m k s l q (λ i t g. a i t (omega arith)) b (λ i t g. c i t (omega arith)))
   where
-    go : (i j : ℕ) (g : Pivot) (x : Float) → i < n → j < n → Within n g → Within n (cond (lt g.best x) (record { best = x; p = i; q = j }) g)
-    go i j g x l m r = pick (lt g.best x)
+    so_far : Q (fold m f s)
+    so_far = fold-keeps f Q m s q (λ i t l. a i t (omega arith))
+
+    go : (k ≡ m) ⊎ (k < m) → (k < m → P (fold m f s)) → P (f m (fold m f s))
+    go (inl e) r = subst (λ (x : ℕ). P (f x (fold m f s))) e (b (fold m f s) so_far)
+    go (inr l) r = c m (fold m f s) (omega arith) so_far (r l)
+
+-- ---- cells
+
+abbrev pub Long : List Float → Type 0
+Long s = length s ≡ 256
+
+length-put : (i j : ℕ) (x : Float) (s : List Float) → Long s → Long (put i j x s)
+unfolding put
+length-put i j x s l = simp length-set l
+
+abbrev Hit : ℕ → ℕ → ℕ → ℕ → Type 0
+Hit i j k l = (i ≡ k) × (j ≡ l)
+
+module _ (P : Float → Type 0) (i j k l : ℕ) (x : Float) (hi : i < 16) (hj : j < 16) (hk : k < 16) (hl : l < 16) where
+  one-set : (s : List Float) → Long s → (Hit i j k l → P x) → Hit i j k l ⊎ P (cell s i j) → P (cell (set s (k * 16 + l) x) i j)
+  one-set s len h was = go (eqb (i * 16 + j) (k * 16 + l)) refl was
+    where
+      go : (b : Bool) → eqb (i * 16 + j) (k * 16 + l) ≡ b → Hit i j k l ⊎ P (cell s i j) → P (cell (set s (k * 16 + l) x) i j)
+      go true e w =
+          let same : i * 16 + j ≡ k * 16 + l = eqb-true _ _ e in
+          let hit : Hit i j k l = (omega arith, omega arith) in
+          subst P (sym (ap (λ (c : ℕ). get_or (set s (k * 16 + l) x) c nan) same ∙ get_or-set_same s (k * 16 + l) x nan (omega arith))) (h hit)
+      go false e (inl (a, b)) = absurd (eqb-false _ _ e (rw (a, b)))
+      go false e (inr p) = subst P (sym (get_or-set_other s (k * 16 + l) (i * 16 + j) x nan (eqb-false _ _ e))) p
+
+-- x is put into cells (k, l) and (l, k): what it has to be where (i, j) is one of them, and what is known otherwise
+module _ (P : Float → Type 0) (i j k l : ℕ) (x : Float) (hi : i < 16) (hj : j < 16) (hk : k < 16) (hl : l < 16) where
+  pub put-cell : (s : List Float) → Long s → (Hit i j k l → P x) → (Hit i j l k → P x) → Hit i j k l ⊎ (Hit i j l k ⊎ P (cell s i j)) → P (cell (put k l x s) i j)
+  unfolding put
+  put-cell s len h g was =
+      one-set P i j l k x hi hj hl hk (set s (k * 16 + l) x) (simp length-set len) g (go was)
+    where
+      first : Hit i j k l ⊎ P (cell s i j) → P (cell (set s (k * 16 + l) x) i j)
+      first w = one-set P i j k l x hi hj hk hl s len h w
+
+      go : Hit i j k l ⊎ (Hit i j l k ⊎ P (cell s i j)) → Hit i j l k ⊎ P (cell (set s (k * 16 + l) x) i j)
+      go (inl a) = inr (first (inl a))
+      go (inr (inl b)) = inl b
+      go (inr (inr p)) = inr (first (inr p))
+
+-- ---- at the start
+
+module _ (n : ℕ) (a : List Complex) (small : n ≤ 16) where
+  abbrev row_step : ℕ → ℕ → List Float → List Float
+  row_step i d = put i (i + 1 + d) (magnitude (entry_at n a i (i + 1 + d)))
+
+  length-row : (i : ℕ) (s : List Float) → Long s → Long (filled_row n a i s)
+  unfolding filled_row
+  length-row i s l = fold-keeps (row_step i) Long (n - (i + 1)) s l (λ d t h k. length-put i (i + 1 + d) _ t k)
+
+  -- a cell off the diagonal
+  module _ (i j : ℕ) (hi : i < n) (hj : j < n) (apart : eqb i j ≡ false) where
+    abbrev Right : Float → Type 0
+    Right x = x ≡ magnitude (upper n a i j)
+
+    -- what row k puts into it is right
+    right : (k l : ℕ) → k < l → Hit i j k l ⊎ Hit i j l k → Right (magnitude (entry_at n a k l))
+    right k l h (inl (e, f)) = rw (e, f, lt-ltb k l h) refl
+    right k l h (inr (e, f)) = rw (e, f, le-ltb l k (omega arith)) refl
+
+    keeps : (k d : ℕ) (s : List Float) → k < n → d < n - (k + 1) → Long s → Right (cell s i j) → Right (cell (row_step k d s) i j)
+    keeps k d s h l len p =
+        put-cell Right i j k (k + 1 + d) _ (omega arith) (omega arith) (omega arith) (omega arith) s len (λ w. right k (k + 1 + d) (omega arith) (inl w)) (λ w. right k (k + 1 + d) (omega arith) (inr w)) (inr (inr p))
+
+    row-keeps : (k : ℕ) (s : List Float) → k < n → Long s → Right (cell s i j) → Right (cell (filled_row n a k s) i j)
+    unfolding filled_row
+    row-keeps k s h len p =
+        (fold-keeps (row_step k) (λ t. Long t × Right (cell t i j)) (n - (k + 1)) s (len, p) (λ d t l w. (length-put k (k + 1 + d) _ t w.0, keeps k d t h l w.0 w.1))).1
+
+    -- the row of the lower of both numbers makes it right
+    row-makes : (k l : ℕ) (s : List Float) → k < l → l < n → Long s → Hit i j k l ⊎ Hit i j l k → Right (cell (filled_row n a k s) i j)
+    unfolding filled_row
+    row-makes k l s h g len hit =
+        fold-reaches (row_step k) Long (λ t. Right (cell t i j)) (n - (k + 1)) (l - (k + 1)) s (omega arith) len (λ d t _ w. length-put k (k + 1 + d) _ t w)
+        (λ t w.
+        let e : k + 1 + (l - (k + 1)) ≡ l = omega arith in
+        subst (λ (y : ℕ). Right (cell (put k y (magnitude (entry_at n a k y)) t) i j)) (sym e)
+        (put-cell Right i j k l _ (omega arith) (omega arith) (omega arith) (omega arith) t w (λ z. right k l h (inl z)) (λ z. right k l h (inr z)) (made hit)))
+        (λ d t m w p. keeps k d t (omega arith) m w p)
       where
-        pick : (b : Bool) → Within n (cond b (record { best = x; p = i; q = j }) g)
-        pick true = (l, m)
-        pick false = r
+        made : {A : Type 0} → Hit i j k l ⊎ Hit i j l k → Hit i j k l ⊎ (Hit i j l k ⊎ A)
+        made (inl w) = inl w
+        made (inr w) = inr (inl w)
 
--- ---- a rotation: row and column c are noted anew
+    filled-right : Right (cell (filled n a) i j)
+    unfolding filled
+    filled-right = go (ltb i j) refl
+      where
+        by_row : (k l : ℕ) → k < l → l < n → Hit i j k l ⊎ Hit i j l k → Right (cell (fold n (filled_row n a) (replicate 256 zero_f)) i j)
+        by_row k l h g hit =
+            fold-reaches (filled_row n a) Long (λ t. Right (cell t i j)) n k (replicate 256 zero_f) (omega arith) (length-replicate 256 zero_f) (λ r t _ w. length-row r t w) (λ t w. row-makes k l t h g w hit) (λ r t m w p. row-keeps r t m w p)
 
-module _ (n : ℕ) (a : List Complex) (c : ℕ) (inside : c < n) where
-  long-cross : {room : ℕ} → (k : ℕ) (w : Notes room) → Long n w → Long n (noted_cross n a c k w)
-  unfolding noted_cross
-  long-cross k w l = go (ltb k c) (ltb c k)
-    where
-      go : (x y : Bool) → Long n (cond x (noted a (k * n + c) w) (cond y (noted a (c * n + k) w) w))
-      go true y = long-noted n a (k * n + c) w l
-      go false true = long-noted n a (c * n + k) w l
-      go false false = l
+        go : (b : Bool) → ltb i j ≡ b → Right (cell (fold n (filled_row n a) (replicate 256 zero_f)) i j)
+        go true e = by_row i j (ltb-true i j e) hj (inl (refl, refl))
+        go false e = by_row j i (below (eq-or-lt_of_le (ltb-false i j e))) hi (inr (refl, refl))
+          where
+            below : (j ≡ i) ⊎ (j < i) → j < i
+            below (inl e) = absurd (eqb-false i j apart (sym e))
+            below (inr l) = l
 
-  -- what is fair stays so
-  cross_keeps : {room : ℕ} → (k x : ℕ) (w : Notes room) → k < n → Long n w → Fair a x w → Fair a x (noted_cross n a c k w)
-  unfolding noted_cross
-  cross_keeps k x w h l f = go (ltb k c) (ltb c k)
-    where
-      go : (y z : Bool) → Fair a x (cond y (noted a (k * n + c) w) (cond z (noted a (c * n + k) w) w))
-      go true z = note-fair n a (k * n + c) x w (entry-fits k c n n h inside) l (inr f)
-      go false true = note-fair n a (c * n + k) x w (entry-fits c k n n inside h) l (inr f)
-      go false false = f
+  -- the diagonal is not touched
+  filled-diagonal : (i : ℕ) → i < n → cell (filled n a) i i ≡ zero_f
+  unfolding filled filled_row
+  filled-diagonal i h =
+      (fold-keeps (filled_row n a) (λ t. Long t × (cell t i i ≡ zero_f)) n (replicate 256 zero_f) (length-replicate 256 zero_f, get_or-replicate 256 (i * 16 + i) zero_f nan (omega arith))
+      (λ k t l w.
+      fold-keeps (row_step k) (λ t. Long t × (cell t i i ≡ zero_f)) (n - (k + 1)) t w
+      (λ d t m w. (
+        length-put k (k + 1 + d) _ t w.0,
+        put-cell (λ x. x ≡ zero_f) i i k (k + 1 + d) _ (omega arith) (omega arith) (omega arith) (omega arith) t w.0 (λ z. let e = z.0 in let f = z.1 in absurd (omega arith)) (λ z. let e = z.0 in let f = z.1 in absurd (omega arith)) (inr (inr w.1)),
+      )))).1
 
-  cross-column : {room : ℕ} → (k : ℕ) (w : Notes room) → k < c → Long n w → Fair a (k * n + c) (noted_cross n a c k w)
-  unfolding noted_cross
-  cross-column k w h l = rw (lt-ltb k c h) (note-fair n a (k * n + c) (k * n + c) w (entry-fits k c n n (omega arith) inside) l (inl refl))
+  pub long-filled : Long (filled n a)
+  unfolding filled
+  long-filled = fold-keeps (filled_row n a) Long n (replicate 256 zero_f) (length-replicate 256 zero_f) (λ k t l w. length-row k t w)
 
-  cross-row : {room : ℕ} → (k : ℕ) (w : Notes room) → c < k → k < n → Long n w → Fair a (c * n + k) (noted_cross n a c k w)
-  unfolding noted_cross
-  cross-row k w h m l = rw (le-ltb k c (omega arith), lt-ltb c k h) (note-fair n a (c * n + k) (c * n + k) w (entry-fits c k n n inside m) l (inl refl))
+  pub kept-first : Kept n a (filled n a)
+  kept-first = record { others = filled-right; diagonal = filled-diagonal }
 
-  long-crosses : {room : ℕ} → (k : ℕ) (w : Notes room) → Long n w → Long n (fold k (noted_cross n a c) w)
-  unfolding fold
-  long-crosses zero w l = l
-  long-crosses (suc k) w l = long-cross k _ (long-crosses k w l)
+-- ---- after a rotation
 
-  -- an entry of row or column c that was passed, or one that was fair before
-  data Passed {room : ℕ} (i j k : ℕ) (w : Notes room) : Type 0 where
-    row : i ≡ c → j < k → Passed i j k w
-    column : j ≡ c → i < k → Passed i j k w
-    before : Fair a (i * n + j) w → Passed i j k w
-
-  crosses : {room : ℕ} → (i j k : ℕ) (w : Notes room) → i < j → j < n → k ≤ n → Long n w → Passed i j k w → Fair a (i * n + j) (fold k (noted_cross n a c) w)
-  unfolding fold
-  crosses i j zero w h m u l (row e p) = absurd (omega arith)
-  crosses i j zero w h m u l (column e p) = absurd (omega arith)
-  crosses i j zero w h m u l (before f) = f
-  crosses i j (suc k) w h m u l (before f) = cross_keeps k (i * n + j) _ (omega arith) (long-crosses k w l) (crosses i j k w h m (omega arith) l (before f))
-  crosses i j (suc k) w h m u l (row e p) =
-      ⊎_elim (λ (q : j ≡ k). rw (e, q) (cross-row k _ (omega arith) (omega arith) (long-crosses k w l)))
-      (λ (q : j < k). cross_keeps k (i * n + j) _ (omega arith) (long-crosses k w l) (crosses i j k w h m (omega arith) l (row e q)))
-      (eq-or-lt_of_le (le_of_suc-le-suc p))
-  crosses i j (suc k) w h m u l (column e p) =
-      ⊎_elim (λ (q : i ≡ k). rw (e, q) (cross-column k _ (omega arith) (long-crosses k w l)))
-      (λ (q : i < k). cross_keeps k (i * n + j) _ (omega arith) (long-crosses k w l) (crosses i j k w h m (omega arith) l (column e q)))
-      (eq-or-lt_of_le (le_of_suc-le-suc p))
-
-  pub long-renoted : {room : ℕ} → (w : Notes room) → Long n w → Long n (renoted n a c w)
-  unfolding renoted
-  long-renoted w l = long-crosses n w l
-
-  -- after all of row and column c
-  fair-renoted : {room : ℕ} → (i j : ℕ) (w : Notes room) → i < j → j < n → Long n w → (i ≡ c) ⊎ ((j ≡ c) ⊎ Fair a (i * n + j) w) → Fair a (i * n + j) (renoted n a c w)
-  unfolding renoted
-  fair-renoted i j w h m l (inl e) = crosses i j n w h m (omega arith) l (row e m)
-  fair-renoted i j w h m l (inr (inl e)) = crosses i j n w h m (omega arith) l (column e (omega arith))
-  fair-renoted i j w h m l (inr (inr f)) = crosses i j n w h m (omega arith) l (before f)
+-- row c has the magnitudes of column c
+abbrev pub Even : ℕ → List Complex → ℕ → Type 0
+Even n a c = (i : ℕ) → i < n → eqb i c ≡ false → magnitude (entry_at n a c i) ≡ magnitude (entry_at n a i c)
 
 -- a matrix b that has a's entries outside rows and columns p and q
 abbrev pub SameOutside : ℕ → ℕ → ℕ → List Complex → List Complex → Type 0
 SameOutside n p q a b = (i j : ℕ) → i < n → j < n → eqb i p ≡ false → eqb i q ≡ false → eqb j p ≡ false → eqb j q ≡ false → entry_at n b i j ≡ entry_at n a i j
 
-pub kept-turn : {room : ℕ} → (n : ℕ) (a b : List Complex) (p q : ℕ) (w : Notes room) → p < n → q < n → Long n w → Kept n a w → SameOutside n p q a b → Kept n b (renoted n b q (renoted n b p w))
-kept-turn n a b p q w hp hq long kept same i j h l = go (eqb i p) (eqb j p) (eqb i q) (eqb j q) refl refl refl refl
+module _ (n : ℕ) (a : List Complex) (p q : ℕ) (small : n ≤ 16) (hp : p < n) (hq : q < n) where
+  length-step : (i : ℕ) (s : List Float) → Long s → Long (renewed_row n a p q i s)
+  unfolding renewed_row
+  length-step i s l = length-put i q _ _ (length-put i p _ s l)
+
+  length-loop : (s : List Float) → Long s → Long (fold n (renewed_row n a p q) s)
+  length-loop s l = fold-keeps (renewed_row n a p q) Long n s l (λ i t _ w. length-step i t w)
+
+  pub long-renewed : (s : List Float) → Long s → Long (renewed n a p q s)
+  unfolding renewed
+  long-renewed s l = length-put q q zero_f _ (length-put p p zero_f _ (length-loop s l))
+
+  module _ (even_p : Even n a p) (even_q : Even n a q) where
+    -- a cell off the diagonal
+    module _ (i j : ℕ) (hi : i < n) (hj : j < n) (apart : eqb i j ≡ false) where
+      abbrev Renewed : Float → Type 0
+      Renewed x = x ≡ magnitude (upper n a i j)
+
+      -- column c's magnitude is right, in its cell and across
+      at_cell : (k c : ℕ) → k < n → Even n a c → eqb k c ≡ false → (b : Bool) → ltb k c ≡ b → magnitude (entry_at n a k c) ≡ magnitude (upper n a k c)
+      at_cell k c h even e true f = rw f refl
+      at_cell k c h even e false f = rw f (sym (even k h e))
+
+      across : (k c : ℕ) → k < n → Even n a c → eqb k c ≡ false → (b : Bool) → ltb c k ≡ b → magnitude (entry_at n a k c) ≡ magnitude (upper n a c k)
+      across k c h even e true f = rw f (sym (even k h e))
+      across k c h even e false f = rw f refl
+
+      right_here : (k c : ℕ) → k < n → Even n a c → Hit i j k c → Renewed (magnitude (entry_at n a k c))
+      right_here k c h even (e, f) = at_cell k c h even (rw (e, f) at apart) (ltb k c) refl ∙ rw (e, f) refl
+
+      right_across : (k c : ℕ) → k < n → Even n a c → Hit i j c k → Renewed (magnitude (entry_at n a k c))
+      right_across k c h even (e, f) = across k c h even (ne_eqb k c (λ x. eqb-false i j apart (e ∙ sym x ∙ sym f))) (ltb c k) refl ∙ rw (e, f) refl
+
+      column-cell : (k c : ℕ) (s : List Float) → k < n → c < n → Even n a c → Long s → Hit i j k c ⊎ (Hit i j c k ⊎ Renewed (cell s i j)) → Renewed (cell (put k c (magnitude (entry_at n a k c)) s) i j)
+      column-cell k c s h g even len was =
+          put-cell Renewed i j k c _ (omega arith) (omega arith) (omega arith) (omega arith) s len (right_here k c h even) (right_across k c h even) was
+
+      step-keeps : (k : ℕ) (s : List Float) → k < n → Long s → Renewed (cell s i j) → Renewed (cell (renewed_row n a p q k s) i j)
+      unfolding renewed_row
+      step-keeps k s h len r =
+          column-cell k q _ h hq even_q (length-put k p _ s len) (inr (inr (column-cell k p s h hp even_p len (inr (inr r)))))
+
+      -- in row or column p, and in row or column q
+      step-makes_p : (k : ℕ) (s : List Float) → k < n → Long s → Hit i j k p ⊎ Hit i j p k → Renewed (cell (renewed_row n a p q k s) i j)
+      unfolding renewed_row
+      step-makes_p k s h len hit = column-cell k q _ h hq even_q (length-put k p _ s len) (inr (inr (column-cell k p s h hp even_p len (made hit))))
+        where
+          made : {A : Type 0} → Hit i j k p ⊎ Hit i j p k → Hit i j k p ⊎ (Hit i j p k ⊎ A)
+          made (inl w) = inl w
+          made (inr w) = inr (inl w)
+
+      step-makes_q : (k : ℕ) (s : List Float) → k < n → Long s → Hit i j k q ⊎ Hit i j q k → Renewed (cell (renewed_row n a p q k s) i j)
+      unfolding renewed_row
+      step-makes_q k s h len hit = column-cell k q _ h hq even_q (length-put k p _ s len) (made hit)
+        where
+          made : {A : Type 0} → Hit i j k q ⊎ Hit i j q k → Hit i j k q ⊎ (Hit i j q k ⊎ A)
+          made (inl w) = inl w
+          made (inr w) = inr (inl w)
+
+      data Known (s : List Float) : Type 0 where
+        in_p : (k : ℕ) → k < n → Hit i j k p ⊎ Hit i j p k → Known s
+        in_q : (k : ℕ) → k < n → Hit i j k q ⊎ Hit i j q k → Known s
+        kept : Renewed (cell s i j) → Known s
+
+      loop-right : (s : List Float) → Long s → Known s → Renewed (cell (fold n (renewed_row n a p q) s) i j)
+      loop-right s len (in_p k h w) =
+          fold-reaches (renewed_row n a p q) Long (λ t. Renewed (cell t i j)) n k s h len (λ m t _ z. length-step m t z) (λ t z. step-makes_p k t h z w) (λ m t l z r. step-keeps m t l z r)
+      loop-right s len (in_q k h w) =
+          fold-reaches (renewed_row n a p q) Long (λ t. Renewed (cell t i j)) n k s h len (λ m t _ z. length-step m t z) (λ t z. step-makes_q k t h z w) (λ m t l z r. step-keeps m t l z r)
+      loop-right s len (kept r) =
+          (fold-keeps (renewed_row n a p q) (λ t. Long t × Renewed (cell t i j)) n s (len, r) (λ m t l w. (length-step m t w.0, step-keeps m t l w.0 w.1))).1
+
+      -- a zero on the diagonal is in no such cell
+      beside : (c : ℕ) (s : List Float) → c < n → Long s → Renewed (cell s i j) → Renewed (cell (put c c zero_f s) i j)
+      beside c s h len r =
+          put-cell Renewed i j c c zero_f (omega arith) (omega arith) (omega arith) (omega arith) s len (λ w. absurd (eqb-false i j apart (w.0 ∙ sym w.1))) (λ w. absurd (eqb-false i j apart (w.0 ∙ sym w.1))) (inr (inr r))
+
+      renewed-right : (s : List Float) → Long s → Known s → Renewed (cell (renewed n a p q s) i j)
+      unfolding renewed
+      renewed-right s len w = beside q _ hq (length-put p p zero_f _ (length-loop s len)) (beside p _ hp (length-loop s len) (loop-right s len w))
+
+  -- ---- the diagonal
+
+  abbrev Zero : Float → Type 0
+  Zero x = x ≡ zero_f
+
+  zero_at : (c : ℕ) (s : List Float) → c < n → Long s → Zero (cell (put c c zero_f s) c c)
+  zero_at c s h len = put-cell Zero c c c c zero_f (omega arith) (omega arith) (omega arith) (omega arith) s len (λ _. refl) (λ _. refl) (inl (refl, refl))
+
+  zero_keeps : (i c : ℕ) (s : List Float) → i < n → c < n → Long s → Zero (cell s i i) → Zero (cell (put c c zero_f s) i i)
+  zero_keeps i c s h g len z = put-cell Zero i i c c zero_f (omega arith) (omega arith) (omega arith) (omega arith) s len (λ _. refl) (λ _. refl) (inr (inr z))
+
+  other-diagonal : (i c k : ℕ) (x : Float) (s : List Float) → i < n → c < n → k < n → eqb i c ≡ false → Long s → Zero (cell s i i) → Zero (cell (put k c x s) i i)
+  other-diagonal i c k x s h g l e len z =
+      put-cell Zero i i k c x (omega arith) (omega arith) (omega arith) (omega arith) s len (λ w. absurd (eqb-false i c e w.1)) (λ w. absurd (eqb-false i c e w.0)) (inr (inr z))
+
+  renewed-diagonal : (s : List Float) → Long s → ((i : ℕ) → i < n → Zero (cell s i i)) → (i : ℕ) → i < n → Zero (cell (renewed n a p q s) i i)
+  unfolding renewed renewed_row
+  renewed-diagonal s len z i h = go (eqb i p) (eqb i q) refl refl
+    where
+      after : List Float
+      after = fold n (renewed_row n a p q) s
+
+      long : Long after
+      long = length-loop s len
+
+      go : (b c : Bool) → eqb i p ≡ b → eqb i q ≡ c → Zero (cell (put q q zero_f (put p p zero_f after)) i i)
+      go b true e f = subst (λ (k : ℕ). Zero (cell (put q q zero_f (put p p zero_f after)) k k)) (sym (eqb-true i q f)) (zero_at q _ hq (length-put p p zero_f _ long))
+      go true false e f = zero_keeps i q _ h hq (length-put p p zero_f _ long) (subst (λ (k : ℕ). Zero (cell (put p p zero_f after) k k)) (sym (eqb-true i p e)) (zero_at p after hp long))
+      go false false e f =
+          zero_keeps i q _ h hq (length-put p p zero_f _ long)
+          (zero_keeps i p after h hp long
+          (fold-keeps (renewed_row n a p q) (λ t. Long t × Zero (cell t i i)) n s (len, z i h)
+          (λ k t l w. (
+            length-step k t w.0,
+            other-diagonal i q k _ _ h hq l f (length-put k p _ t w.0) (other-diagonal i p k _ t h hp l e w.0 w.1),
+          ))).1)
+
+-- from the cells of a to those of b
+pub kept-turn : (n : ℕ) (a b : List Complex) (p q : ℕ) (s : List Float) → n ≤ 16 → p < n → q < n → Long s → Kept n a s → SameOutside n p q a b → Even n b p → Even n b q → Kept n b (renewed n b p q s)
+kept-turn n a b p q s small hp hq len k same even_p even_q = record {
+  others = λ i j h l e. renewed-right n b p q small hp hq even_p even_q i j h l e s len (known i j h l e (eqb i p) (eqb i q) (eqb j p) (eqb j q) refl refl refl refl);
+  diagonal = renewed-diagonal n b p q small hp hq s len k.diagonal;
+}
   where
-    -- where the first of the two left it fair
-    second : Fair b (i * n + j) (renoted n b p w) → Fair b (i * n + j) (renoted n b q (renoted n b p w))
-    second f = fair-renoted n b q hq i j (renoted n b p w) h l (long-renoted n b p hp w long) (inr (inr f))
+    known : (i j : ℕ) (h : i < n) (l : j < n) (e : eqb i j ≡ false) (u v x y : Bool) → eqb i p ≡ u → eqb i q ≡ v → eqb j p ≡ x → eqb j q ≡ y → Known n b p q small hp hq even_p even_q i j h l e s
+    known i j h l e true v x y f g d c = in_p j l (inr (eqb-true i p f, refl))
+    known i j h l e false true x y f g d c = in_q j l (inr (eqb-true i q g, refl))
+    known i j h l e false false true y f g d c = in_p i h (inl (refl, eqb-true j p d))
+    known i j h l e false false false true f g d c = in_q i h (inl (refl, eqb-true j q c))
+    known i j h l e false false false false f g d c =
+        kept (k.others i j h l e ∙ ap magnitude (rw (same i j h l f g d c, same j i l h d c f g) refl))
 
-    go : (s t u v : Bool) → eqb i p ≡ s → eqb j p ≡ t → eqb i q ≡ u → eqb j q ≡ v → Fair b (i * n + j) (renoted n b q (renoted n b p w))
-    go true t u v e f g k = second (fair-renoted n b p hp i j w h l long (inl (eqb-true i p e)))
-    go false true u v e f g k = second (fair-renoted n b p hp i j w h l long (inr (inl (eqb-true j p f))))
-    go false false true v e f g k = fair-renoted n b q hq i j (renoted n b p w) h l (long-renoted n b p hp w long) (inl (eqb-true i q g))
-    go false false false true e f g k = fair-renoted n b q hq i j (renoted n b p w) h l (long-renoted n b p hp w long) (inr (inl (eqb-true j q k)))
-    go false false false false e f g k =
-        second (fair-renoted n b p hp i j w h l long (inr (inr (rw (same i j (omega arith) l e g f k) (kept i j h l)))))
+-- ---- places
 
--- what a search finds
-pub search-finds : {room : ℕ} → (n : ℕ) (a : List Complex) (w : Notes room) (g : Pivot) (x : Notes room) → Long n w → Kept n a w → found g x ≡ searched n a w → (g ≡ pivot_of n a) × Long n x × Kept n a x
-search-finds {room = room} n a w g x l k e = subst (λ (f : Search room). Good n a f (pivot_of n a)) (sym e) (good-search n a w l k)
+-- the pivot's place is in the matrix
+abbrev pub Within : ℕ → Pivot → Type 0
+Within n g = (g.p < n) × (g.q < n)
 
--- ---- the scale
-
--- a number to start from: neither a NaN nor negative
-abbrev Proper : Float → Type 0
-Proper s = (is_nan s ≡ false) × (negative s ≡ false)
-
--- what is not larger changes nothing
-max-same : (s x : Float) → Proper s → lt s x ≡ false → max s x ≡ s
-unfolding max
-max-same s x (n, p) h = rw (n, h, p) (go (is_nan x) (lt x s))
+within-larger : (n i j : ℕ) (x : Float) (g : Pivot) → i < n → j < n → Within n g → Within n (larger x i j g)
+unfolding larger
+within-larger n i j x g l m r = pick (lt g.best x)
   where
-    go : (b c : Bool) → cond b s (cond c s s) ≡ s
-    go true c = refl
-    go false true = refl
-    go false false = refl
+    pick : (b : Bool) → Within n (cond b (record { best = x; p = i; q = j }) g)
+    pick true = (l, m)
+    pick false = r
 
--- what is above a number that is not negative is neither a NaN nor negative
-proper-above : (s x : Float) → negative s ≡ false → lt s x ≡ true → Proper x
-unfolding lt negative is_nan
-proper-above nan x p h = clash h
-proper-above (inf true) x p h = clash (sym p)
-proper-above (inf false) nan p h = clash h
-proper-above (inf false) (inf t) p h = clash h
-proper-above (inf false) (fin t n d) p h = clash h
-proper-above (fin true m e) x p h = clash (sym p)
-proper-above (fin false m e) nan p h = clash h
-proper-above (fin false m e) (inf true) p h = clash h
-proper-above (fin false m e) (inf false) p h = (refl, refl)
-proper-above (fin false m e) (fin true n d) p h = clash h
-proper-above (fin false m e) (fin false n d) p h = (refl, refl)
+pub pivot-within : (n : ℕ) (a : List Complex) → 0 < n → Within n (pivot_of n a)
+unfolding pivot_of pivot_in
+pivot-within n a h =
+    fold-keeps (pivot_in n a) (Within n) n no_pivot (h, h)
+    (λ i g l p. fold-keeps (λ d. larger (magnitude (entry_at n a i (i + 1 + d))) i (i + 1 + d)) (Within n) (n - (i + 1)) g p (λ d t m r. within-larger n i (i + 1 + d) _ t l (omega arith) r))
 
-max-larger : (s x : Float) → Proper s → lt s x ≡ true → max s x ≡ x
-unfolding max
-max-larger s x (n, p) h = rw (n, h, (proper-above s x p h).0)
-
-max-proper : (s x : Float) → Proper s → Proper (max s x)
-max-proper s x p = go (lt s x) refl
-  where
-    go : (b : Bool) → lt s x ≡ b → Proper (max s x)
-    go true h = rw (max-larger s x p h) (proper-above s x p.1 h)
-    go false h = rw (max-same s x p h) p
-
-widened_is : (z : Complex) (s : Float) → Proper s → widened z s ≡ max s (magnitude z)
-unfolding widened
-widened_is z s p = go (le (bound z) s) refl
-  where
-    go : (b : Bool) → le (bound z) s ≡ b → cond b s (max s (magnitude z)) ≡ max s (magnitude z)
-    go true h = sym (max-same s (magnitude z) p (bound-holds z s h))
-    go false h = refl
-
-all-widened : (z : ℕ → Complex) (m : ℕ) → (fold m (λ k. widened (z k)) zero_f ≡ fold m (λ k s. max s (magnitude (z k))) zero_f) × Proper (fold m (λ k s. max s (magnitude (z k))) zero_f)
-unfolding fold is_nan negative of_bits
-all-widened z zero = (refl, (refl, refl))
-all-widened z (suc m) =
-    let h = all-widened z m in
-    (ap (widened (z m)) h.0 ∙ widened_is (z m) _ h.1, max-proper _ _ h.1)
-
-pub scale-is : (n : ℕ) (a : List Complex) (s : Float) → s ≡ fold (n * n) (λ k. widened (get_or a k nowhere)) zero_f → max s smallest_normal ≡ scale_of n a
-unfolding scale_of scale_by
-scale-is n a s e = ap (λ (x : Float). max x smallest_normal) (e ∙ (all-widened (λ k. get_or a k nowhere) (n * n)).0)
+pub column-within : (n : ℕ) (s : List Float) → 0 < n → (column_found n s).p < n
+unfolding column_found
+column-within n s h = (fold-keeps (λ c. larger (column n s c) c 0) (Within n) n no_pivot (h, h) (λ c t l r. within-larger n c 0 _ t l h r)).0

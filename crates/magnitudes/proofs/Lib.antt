@@ -1,1 +1,4 @@
+pub mod Loops
+pub mod Largest
+pub mod Finding
 pub mod Keeping

@@ -1,2 +1,2 @@
 pub mod Pivot
-pub mod Notes
+pub mod Kept

@@ -1,5 +1,5 @@
 -- The pivot of classical Jacobi (Golub and Van Loan, section 8.5): the largest magnitude above the diagonal, and the scale of a matrix.
-use Rattle.std.specs.Prelude.{cond, List, ℕ, ◌+◌, ◌-◌, ◌*◌, get_or, Float}
+use Rattle.std.specs.Prelude.{◌≡◌, true, false, cond, ◌⊎◌, List, ℕ, ◌+◌, ◌-◌, ◌*◌, ◌<◌, get_or, Float}
 use Rattle.std.specs.Float.Ieee.{lt}
 use Rattle.lists.specs.Fold.{fold}
 use Rattle.numbers.specs.Number.{number, max, zero_f}
@@ -32,3 +32,10 @@ pivot_in n a i g = fold (n - (i + 1)) (λ d. larger (magnitude (entry_at n a i (
 
 unfoldable pub pivot_of : ℕ → List Complex → Pivot
 pivot_of n a = fold n (pivot_in n a) no_pivot
+
+-- What the pivot is: of all magnitudes above the diagonal none is larger, and those above 0 that come before it by rows are smaller.
+-- It is above 0, so never a NaN, and the magnitude of the entry at its place; where no magnitude is above 0 there is no place.
+pub record IsPivot (n : ℕ) (a : List Complex) (g : Pivot) : Type 0 where
+  pub none_larger : (i j : ℕ) → i < j → j < n → lt g.best (magnitude (entry_at n a i j)) ≡ false
+  pub first : (i j : ℕ) → i < j → j < n → (i < g.p) ⊎ ((i ≡ g.p) × (j < g.q)) → lt zero_f (magnitude (entry_at n a i j)) ≡ true → lt (magnitude (entry_at n a i j)) g.best ≡ true
+  pub place : (g ≡ no_pivot) ⊎ ((g.p < g.q) × (g.q < n) × (lt zero_f g.best ≡ true) × (g.best ≡ magnitude (entry_at n a g.p g.q)))

@@ -1,14 +1,18 @@
-// The pivot of classical Jacobi: the largest magnitude above the diagonal. A square root costs more than all else that is done to an entry, so a bound of each
-// magnitude is kept, and the magnitude itself once the bound did not rule it out.
-#![tactic(auto, using(lists::proofs::Folding::fold_more), unfolding(crate::specs::Notes::widened, crate::specs::Notes::noted, crate::specs::Notes::measured, crate::specs::Notes::noted_cross, crate::specs::Notes::renoted, crate::specs::Notes::sized_at, crate::specs::Notes::looked, crate::specs::Notes::looked_in, crate::specs::Notes::searched, crate::specs::Pivot::larger, lists::specs::Fold::fold))]
+//! The pivot of classical Jacobi: the largest magnitude above the diagonal. A rotation changes the
+//! magnitudes of two rows and two columns; the others are kept from one rotation to the next.
+#![tactic(auto, using(lists::proofs::Folding::fold_more), unfolding(crate::specs::Pivot::larger, crate::specs::Kept::put, crate::specs::Kept::filled_row, crate::specs::Kept::filled, crate::specs::Kept::renewed_row, crate::specs::Kept::renewed, crate::specs::Kept::column_found, crate::specs::Kept::row_found, lists::specs::Fold::fold))]
 
-ghost use Rattle.std.specs.Prelude.{◌≡◌, ◌+◌, ◌*◌, ◌<◌, ◌≤◌, length};
+ghost use Rattle.std.specs.Prelude.{◌≡◌, ◌+◌, ◌*◌, ◌<◌, ◌≤◌, List, length};
+ghost use Rattle.complex.specs.declared.Complex.{Complex as Entry};
+ghost use Rattle.lists.specs.Build.{build};
 ghost use Rattle.entries.specs.Entries.{entries};
 ghost use Rattle.magnitudes.specs.Pivot as spec;
-ghost use Rattle.magnitudes.specs.Notes.{blank, found, widened, noted, noted_cross, renoted, measured, looked, looked_in, searched};
+ghost use Rattle.magnitudes.specs.Kept as kept;
 
 use complex::Complex;
+use std::simd::prelude::*;
 
+/// The place (p, q) of the largest magnitude above the diagonal, and that magnitude.
 #[derive(Clone, Copy, Debug, PartialEq)]
 pub struct Pivot {
     pub best: f64,
@@ -16,25 +20,14 @@ pub struct Pivot {
     pub q: usize,
 }
 
-// Of each entry of a matrix of up to N entries: a bound of its magnitude, and the magnitude, or -1 where it is not known. An array of an enum of the two was searched in
-// 1.3 times the time.
+/// The magnitudes of a matrix of up to 16 rows. Cells (i, j) and (j, i) hold that of the entry above
+/// the diagonal, and the diagonal holds 0. A row is 16 numbers wide whatever the matrix.
 #[derive(Drop)]
-pub struct Notes<const N: usize> {
-    bounds: [f64; N],
-    sizes: [f64; N],
+pub struct Magnitudes {
+    pub cells: [f64; 256],
 }
 
-// The larger of s and the magnitude of z.
-fn widen(z: Complex, s: f64) -> f64
-    ensures { result ≡ widened z s }
-{
-    if z.bound() <= s {
-        return s;
-    }
-    numbers::max_of(s, z.magnitude())
-}
-
-// The largest magnitude of the n by n matrix in a, and at least the smallest normal number.
+/// The largest magnitude of the n by n matrix in `a`, and at least the smallest normal number.
 pub fn scale(a: &[f64], n: usize) -> f64
     requires { length a.now ≡ 2 * (n * n) }
     ensures { result ≡ spec.scale_of n (entries a.now) }
@@ -42,12 +35,24 @@ pub fn scale(a: &[f64], n: usize) -> f64
     let (entries, _) = a.as_chunks::<2>();
     let mut s = 0.0;
     for [re, im] in entries {
-        s = widen(Complex { re: *re, im: *im }, s);
+        let z = Complex { re: *re, im: *im };
+        s = numbers::max_of(s, z.magnitude());
     }
     numbers::max_of(s, f64::MIN_POSITIVE)
 }
 
 impl Pivot {
+    // No place yet.
+    fn none() -> Pivot
+        ensures { result ≡ spec.no_pivot }
+    {
+        Pivot {
+            best: 0.0,
+            p: 0,
+            q: 0,
+        }
+    }
+
     // Place (i, j) instead, where its magnitude x is larger.
     fn or(self, x: f64, i: usize, j: usize) -> Pivot
         ensures { result ≡ spec.larger x i j self }
@@ -63,97 +68,121 @@ impl Pivot {
     }
 }
 
-impl<const N: usize> Notes<N> {
-    // Notes all entries of the n by n matrix in a.
+impl Magnitudes {
+    /// Those of the n by n matrix in `a`.
     pub fn of(a: &[f64], n: usize) -> Self
-        requires { (length a.now ≡ 2 * (n * n)) × (n * n ≤ N) }
-        ensures { result ≡ measured n (entries a.now) blank }
+        requires { (length a.now ≡ 2 * (n * n)) × (n ≤ 16) }
+        ensures { result.cells ≡ kept.filled n (entries a.now) }
     {
-        let mut notes = Notes {
-            bounds: [0.0; N],
-            sizes: [0.0; N],
-        };
-        // By places: `note` takes one entry's; and the loops below go by row and column.
-        for k in 0..n * n {
-            notes.note(a, k);
+        let mut magnitudes = Magnitudes { cells: [0.0; 256] };
+        for i in 0..n {
+            magnitudes.fill_row(a, n, i);
         }
-        notes
-    }
-
-    // Notes entry k anew: its bound, and that its magnitude is not known.
-    fn note(&mut self, a: &[f64], k: usize)
-        requires { (2 * k + 1 < length a.now) × (k < N) }
-        ensures { self.new ≡ noted (entries a.now) k self.old }
-    {
-        self.bounds[k] = entries::get(a, k).bound();
-        self.sizes[k] = -1.0;
-    }
-
-    // Notes what row and column c have above the diagonal in column or row k.
-    fn note_cross(&mut self, a: &[f64], n: usize, c: usize, k: usize)
-        requires { (length a.now ≡ 2 * (n * n)) × (n * n ≤ N) × (c < n) × (k < n) }
-        ensures { self.new ≡ noted_cross n (entries a.now) c k self.old }
-    {
-        if k < c {
-            self.note(a, k * n + c);
-        } else if c < k {
-            self.note(a, c * n + k);
-        }
-    }
-
-    // Notes row and column c.
-    pub fn renote(&mut self, a: &[f64], n: usize, c: usize)
-        requires { (length a.now ≡ 2 * (n * n)) × (n * n ≤ N) × (c < n) }
-        ensures { self.new ≡ renoted n (entries a.now) c self.old }
-    {
-        for k in 0..n {
-            self.note_cross(a, n, c, k);
-        }
-    }
-
-    // g, or place (i, j) where its magnitude is larger, by what is noted of the entry there.
-    fn look(&mut self, a: &[f64], n: usize, i: usize, j: usize, g: Pivot) -> Pivot
-        requires { (length a.now ≡ 2 * (n * n)) × (n * n ≤ N) × (i < n) × (j < n) }
-        ensures { found result self.new ≡ looked (entries a.now) (i * n + j) i j (found g self.old) }
-    {
-        let k = i * n + j;
-        if self.bounds[k] <= g.best {
-            return g;
-        }
-        let known = self.sizes[k];
-        if known < 0.0 {
-            let x = entries::get(a, k).magnitude();
-            self.bounds[k] = x;
-            self.sizes[k] = x;
-            return g.or(x, i, j);
-        }
-        g.or(known, i, j)
+        magnitudes
     }
 
     // Row i, right of the diagonal.
-    fn look_in(&mut self, a: &[f64], n: usize, i: usize, mut g: Pivot) -> Pivot
-        requires { (length a.now ≡ 2 * (n * n)) × (n * n ≤ N) × (i < n) }
-        ensures { found result self.new ≡ looked_in n (entries a.now) i (found g self.old) }
+    fn fill_row(&mut self, a: &[f64], n: usize, i: usize)
+        requires { (length a.now ≡ 2 * (n * n)) × (n ≤ 16) × (i < n) }
+        ensures { self.new.cells ≡ kept.filled_row n (entries a.now) i self.old.cells }
     {
         for j in i + 1..n {
-            g = self.look(a, n, i, j, g);
+            self.put(i, j, entries::read(a, n, i, j).magnitude());
+        }
+    }
+
+    // x in cells (i, j) and (j, i).
+    fn put(&mut self, i: usize, j: usize, x: f64)
+        requires { (i < 16) × (j < 16) }
+        ensures { self.new.cells ≡ kept.put i j x self.old.cells }
+    {
+        self.cells[i * 16 + j] = x;
+        self.cells[j * 16 + i] = x;
+    }
+
+    // Columns p and q of row i.
+    fn renew_row(&mut self, a: &[f64], n: usize, p: usize, q: usize, i: usize)
+        requires { (length a.now ≡ 2 * (n * n)) × (n ≤ 16) × (p < n) × (q < n) × (i < n) }
+        ensures { self.new.cells ≡ kept.renewed_row n (entries a.now) p q i self.old.cells }
+    {
+        let x = entries::read(a, n, i, p);
+        let y = entries::read(a, n, i, q);
+        let re = f64x2::from_array([x.re, y.re]);
+        let im = f64x2::from_array([x.im, y.im]);
+        let [x, y] = complex::magnitudes_of(re, im).to_array();
+        self.put(i, p, x);
+        self.put(i, q, y);
+    }
+
+    /// Works out anew those of rows and columns p and q of the n by n matrix in `a`, whose rows p and q
+    /// are the conjugates of its columns p and q. The others stay.
+    pub fn renew(&mut self, a: &[f64], n: usize, p: usize, q: usize)
+        requires { (length a.now ≡ 2 * (n * n)) × (n ≤ 16) × (p < n) × (q < n) }
+        ensures { self.new.cells ≡ kept.renewed n (entries a.now) p q self.old.cells }
+    {
+        for i in 0..n {
+            self.renew_row(a, n, p, q, i);
+        }
+        self.put(p, p, 0.0);
+        self.put(q, q, 0.0);
+    }
+
+    // The largest magnitude below the diagonal, and maybe of some above it, of each of columns 8 half to
+    // 8 half + 7, side by side. Rows up to 8 half hold none below it.
+    fn eight_columns(&self, n: usize, half: usize) -> f64x8
+        requires { (n ≤ 16) × (half ≤ 1) }
+        ensures { result ≡ build 8 (kept.largest_in n self.now.cells half) }
+    {
+        let mut largest = f64x8::splat(0.0);
+        for j in half * 8 + 1..n {
+            let row = f64x8::from_slice(&self.cells[j * 16 + half * 8..]);
+            largest = largest.simd_lt(row).select(row, largest);
+        }
+        largest
+    }
+
+    // The same of each column.
+    fn columns(&self, n: usize) -> [f64; 16]
+        requires { n ≤ 16 }
+        ensures { result ≡ build 16 (kept.column n self.now.cells) }
+    {
+        let mut columns = [0.0; 16];
+        columns[..8].copy_from_slice(&self.eight_columns(n, 0).to_array());
+        columns[8..].copy_from_slice(&self.eight_columns(n, 1).to_array());
+        columns
+    }
+
+    // The first column with the largest magnitude, as the pivot's p.
+    fn column(&self, n: usize) -> Pivot
+        requires { n ≤ 16 }
+        ensures { result ≡ kept.column_found n self.now.cells }
+    {
+        let columns = self.columns(n);
+        let mut g = Pivot::none();
+        for (c, x) in columns[..n].iter().enumerate() {
+            g = g.or(*x, c, 0);
         }
         g
     }
 
-    // The first of the largest magnitudes above the diagonal.
-    pub fn find(&mut self, a: &[f64], n: usize) -> Pivot
-        requires { (length a.now ≡ 2 * (n * n)) × (n * n ≤ N) }
-        ensures { found result self.new ≡ searched n (entries a.now) self.old }
+    // The first of the largest magnitudes in row p, right of the diagonal.
+    fn row(&self, n: usize, p: usize) -> Pivot
+        requires { (n ≤ 16) × (p < n) }
+        ensures { result ≡ kept.row_found n self.now.cells p }
     {
-        let mut g = Pivot {
-            best: 0.0,
-            p: 0,
-            q: 0,
-        };
-        for i in 0..n {
-            g = self.look_in(a, n, i, g);
+        let mut g = Pivot::none();
+        for q in p + 1..n {
+            g = g.or(self.cells[p * 16 + q], p, q);
         }
         g
+    }
+
+    /// The first of the largest magnitudes above the diagonal, by rows.
+    pub fn pivot(&self, n: usize) -> Pivot
+        requires { (0 < n) × (n ≤ 16) }
+        ensures pivot { (a : List Entry) → kept.Kept n a self.now.cells → result ≡ spec.pivot_of n a }
+        ensures largest { (a : List Entry) → kept.Kept n a self.now.cells → spec.IsPivot n a result }
+    {
+        self.row(n, self.column(n).p)
     }
 }

@@ -11,7 +11,7 @@ use lib.Ieee.{Float, neg}
 use Rattle.refusal.specs.declared.Refusal.{Refusal}
 use Rattle.refusal.specs.declared.Refusal.TheVariants.{EigensolverDidNotConverge}
 use Rattle.entries.specs.Entries.{entries}
-use Rattle.eigen.specs.Jacobi.{Values, eigenvalues_of, told_values}
+use Rattle.eigen.specs.Jacobi.{Values, eig_of, values_of, told_values}
 use Rattle.choi.specs.Choi.{choi_of, choi_tested, normalized_choi, choi_numbers}
 use Rattle.choi.proofs.Values.{good-choi, length-choi}
 use Rattle.lists.specs.Build.{over}
@@ -58,12 +58,12 @@ module _ (n : ℕ) (transfer : List Float) (w : Verdict) (e : w ≡ normalized_c
         → Err r ≡ told (first_of (normalized_choi n transfer) (known (choi_values n t rotations transfer))) (completely_positive n t rotations transfer)
     choi-refused r f = ap (λ (x : Verdict). told (first_of x (known (choi_values n t rotations transfer))) (completely_positive n t rotations transfer)) (sym f ∙ e)
 
-    pub choi-good : (p : ℕ) (matrix : List Float) (found : Positivity) → w ≡ good → p ≡ 4 ^ n → matrix ≡ choi_of n transfer → found ≡ judged t (eigenvalues_of p t rotations (entries matrix))
+    pub choi-good : (p : ℕ) (matrix : List Float) (found : Positivity) → w ≡ good → p ≡ 4 ^ n → matrix ≡ choi_of n transfer → found ≡ judged t (values_of (eig_of p t rotations (entries matrix)))
         → found ≡ told (first_of (normalized_choi n transfer) (known (choi_values n t rotations transfer))) (completely_positive n t rotations transfer)
     unfolding choi_values completely_positive
     choi-good p matrix found f k m g =
         g
-        ∙ ap₂ (λ (q : ℕ) (x : List Float). judged t (eigenvalues_of q t rotations (entries x))) k m
+        ∙ ap₂ (λ (q : ℕ) (x : List Float). judged t (values_of (eig_of q t rotations (entries x)))) k m
         ∙ ap (λ (x : Verdict). told (first_of x (known (choi_values n t rotations transfer))) (completely_positive n t rotations transfer)) (sym f ∙ e)
 
 -- ---- the tests before it

@@ -8,7 +8,7 @@ use Rattle.numbers.specs.Slice.{at}
 use Rattle.refusal.specs.declared.Refusal.{Refusal}
 use Rattle.refusal.specs.declared.Refusal.TheVariants.{EigensolverDidNotConverge}
 use Rattle.entries.specs.Entries.{entries}
-use Rattle.eigen.specs.Jacobi.{Values, values, unknown_values, eigenvalues_of}
+use Rattle.eigen.specs.Jacobi.{Values, values, unknown_values, eig_of, values_of}
 use Rattle.choi.specs.Choi.{choi_of, choi_tested}
 
 -- each is at least the bound; a NaN is not
@@ -17,7 +17,7 @@ none_below bound w = fold (length w) (λ k good. good && le bound (at w k)) true
 
 -- the eigenvalues of the normalized Choi matrix, which has 4^n rows, or that the rotations are used up
 unfoldable pub choi_values : ℕ → Float → ℕ → List Float → Values
-choi_values n tolerance rotations transfer = eigenvalues_of (4 ^ n) tolerance rotations (entries (choi_of n transfer))
+choi_values n tolerance rotations transfer = values_of (eig_of (4 ^ n) tolerance rotations (entries (choi_of n transfer)))
 
 -- refusal 12
 abbrev pub known : Values → Verdict

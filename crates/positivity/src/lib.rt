@@ -3,7 +3,7 @@
 
 ghost use Rattle.std.specs.Prelude.{◌≡◌, ◌*◌, ◌^◌, ◌≤◌, ◌<◌, length};
 ghost use Rattle.entries.specs.Entries.{entries};
-ghost use Rattle.eigen.specs.Jacobi.{eigenvalues_of};
+ghost use Rattle.eigen.specs.Jacobi.{eig_of, values_of};
 ghost use Rattle.refusal.specs.Verdicts.{first_of, checked_numbers, tolerance_of};
 ghost use Rattle.choi.specs.Choi.{normalized_choi};
 ghost use Rattle.positivity.specs.Positivity.{none_below, known, judged, choi_values, positivity_verdict, completely_positive, told};
@@ -17,10 +17,15 @@ fn none_below(bound: f64, w: &[f64]) -> bool
     w.iter().fold(true, |good, x| good & (bound <= *x))
 }
 
-// The eigenvalues of the p by p matrix, beside minus the tolerance.
-fn test_matrix(matrix: &[f64], p: usize, tolerance: f64, rotations: u64) -> Result<bool, Refusal>
-    requires { (length matrix.now ≡ 2 * (p * p)) × (0 < p) × (p ≤ 16) }
-    ensures { result ≡ judged tolerance (eigenvalues_of p tolerance rotations (entries matrix.now)) }
+// The eigenvalues of the p by p matrix, beside minus the tolerance. The matrix is used up.
+fn test_matrix(
+    matrix: &mut [f64],
+    p: usize,
+    tolerance: f64,
+    rotations: u64,
+) -> Result<bool, Refusal>
+    requires { (length matrix.old ≡ 2 * (p * p)) × (0 < p) × (p ≤ 16) }
+    ensures { result ≡ judged tolerance (values_of (eig_of p tolerance rotations (entries matrix.old))) }
 {
     let mut w = [0.0; 16];
     let w = &mut w[..p];
@@ -38,7 +43,7 @@ fn test_choi(n: usize, transfer: &[f64], tolerance: f64, rotations: u64) -> Resu
     let p = four_to(n);
     let mut matrix = [0.0; 512];
     choi::normalized_choi(n, transfer, &mut matrix)?;
-    test_matrix(&matrix[..2 * (p * p)], p, tolerance, rotations)
+    test_matrix(&mut matrix[..2 * (p * p)], p, tolerance, rotations)
 }
 
 fn check(n: usize, transfer: &[f64], tolerance: f64) -> Result<(), Refusal>

@@ -1,6 +1,5 @@
-mod Squares
-mod Cases
+pub mod Halves
+pub mod Rounded
 pub mod Nearest
-pub mod Bounds
+pub mod Cases
 mod Roots
-mod FromOne

@@ -2,22 +2,20 @@
 use mathlib.Core.Path.{◌≡◌, refl, sym, ◌∙◌, ap, subst}
 use mathlib.Core.Bool.{Bool, true, false}
 use mathlib.Core.Logic.{◌⊎◌, inl, inr}
-use Prim.Native.Nat.{ℕ, zero, suc, ◌+◌, ◌-◌, ◌*◌, ◌/◌, ◌%◌, ◌^◌, ◌<◌, ◌≤◌}
+use Prim.Native.Nat.{ℕ, zero, suc, ◌+◌, ◌-◌, ◌*◌, ◌^◌, ◌<◌, ◌≤◌}
 use native.Mathlib.Nat.{le_trans, le_of_eq, le_of_lt, lt_of_lt_of_le, lt_of_le_of_lt, eq-zero-or-pos, eq-or-lt_of_le, add-mul, suc-mul, mul-suc, mul_assoc, mul-one, mul-mul-mul_comm, mul-le-mul, mul-le-mul_left, mul-le-mul_right, mul-lt-mul_of_pos_right, lt_of_mul-lt-mul_right, mul-pos}
 use native.Mathlib.Omega.{arith}
-use lib.Dec.{T, lit<}
+use lib.Dec.{T}
 use lib.Pow.{pow-add, pow_pos, pow_mono, shl_lt}
-use lib.Ieee.{Float, nan, inf, fin, binary64, fits, lt, of_bits}
-use lib.Ieee.Exact.{HasValue, odd_sign}
+use lib.Ieee.{Float, nan, inf, fin, binary64, fits, lt}
+use lib.Ieee.Exact.{HasValue}
 use Rattle.numbers.specs.Number.{finite, negative, zero_f}
 use Rattle.rounding.specs.Units.{units_in_one, units_of}
-use Rattle.rounding.proofs.Units.{counted, units-of-value, above_zero}
-use Rattle.significand.specs.Significand.{significand_of, exponent_of}
-use Rattle.significand.proofs.Exact.{exact}
-use Rattle.root.specs.Root.{near_root, root_of, sqrt}
+use Rattle.rounding.proofs.Units.{counted, units-of-value}
+use Rattle.root.specs.Root.{sqrt}
 use Rattle.root.specs.Nearest.{Nearest}
-use Rattle.root.proofs.Squares.{NearRoot, near-root, near-bounds, square-sum}
-use Rattle.root.proofs.Cases.{of_positive}
+use Rattle.root.proofs.Halves.{NearRoot, square-sum}
+use Rattle.root.proofs.Rounded.{rooted}
 
 square-lt : (a b : ℕ) → a < b → a * a < b * b
 square-lt a b h = lt_of_le_of_lt (mul-le-mul_left a (le_of_lt h)) (mul-lt-mul_of_pos_right h (lt_of_le_of_lt (omega arith) h))
@@ -105,34 +103,5 @@ of-near x r n p h value same near low large = record {
     units : units_of r ≡ p * 2 ^ h
     units = units-of-value r false (p * 2 ^ h) value
 
--- the bounds of what the root is taken of
-bounds : (m b : ℕ) → 2 ^ 52 ≤ m → m < 2 ^ 53 → b < 2 → (2 ^ 104 ≤ m * 2 ^ b * 2 ^ 52) × (m * 2 ^ b * 2 ^ 52 ≤ 2 ^ 106 - 2 ^ 53)
-bounds m zero l h s = (omega arith, omega arith)
-bounds m (suc zero) l h s = (omega arith, omega arith)
-bounds m (suc (suc b)) l h s = absurd (omega arith)
-
--- half the exponent is left over
-scale : (u m e : ℕ) → m * 2 ^ e ≡ u * 2 ^ 52 → u * units_in_one ≡ m * 2 ^ (e % 2) * 2 ^ 52 * (2 ^ (e / 2 + 485) * 2 ^ (e / 2 + 485))
-scale u m e h =
-    let d = e / 2 + 485 in
-    let s : e + 1022 ≡ e % 2 + 52 + (d + d) = omega arith in
-    sym (mul_assoc u (2 ^ 52) (2 ^ 1022))
-    ∙ ap (λ (z : ℕ). z * 2 ^ 1022) (sym h)
-    ∙ mul_assoc m (2 ^ e) (2 ^ 1022)
-    ∙ ap (λ (z : ℕ). m * z) (sym (pow-add 2 e 1022) ∙ ap (λ (z : ℕ). 2 ^ z) s ∙ pow-add 2 (e % 2 + 52) (d + d))
-    ∙ sym (mul_assoc m (2 ^ (e % 2 + 52)) (2 ^ (d + d)))
-    ∙ ap (λ (z : ℕ). m * z * 2 ^ (d + d)) (pow-add 2 (e % 2) 52)
-    ∙ ap (λ (z : ℕ). z * 2 ^ (d + d)) (sym (mul_assoc m (2 ^ (e % 2)) (2 ^ 52)))
-    ∙ ap (λ (z : ℕ). m * 2 ^ (e % 2) * 2 ^ 52 * z) (pow-add 2 d d)
-
 pub nearest : (x : Float) → T (fits binary64 x) → finite x ≡ true → lt zero_f x ≡ true → Nearest x (sqrt x)
-unfolding of_bits root_of
-nearest x f g l =
-    let e = exact x f g (above_zero x f g l).1 in
-    let m = significand_of x in
-    let d = exponent_of x in
-    let b = bounds m (d % 2) e.low e.high (omega arith) in
-    let n = m * 2 ^ (d % 2) * 2 ^ 52 in
-    let near = near-root 53 n (lt_of_lt_of_le (pow_pos 104) b.0) (lt_of_le_of_lt b.1 (lit< tt)) in
-    rw (of_positive x l g)
-    (of-near x (root_of m d) n (near_root 53 n) (d / 2 + 485) (odd_sign 53 false (near_root 53 n) (d / 2 + 485) 1074) (scale (units_of x) m d e.is) near (near-bounds n (near_root 53 n) near b.0 b.1).0 b.0)
+nearest x f g l = let r = rooted x f g l in of-near x (sqrt x) r.n r.p r.h r.value r.same r.near r.low r.large

@@ -5,9 +5,7 @@ use mathlib.Core.List.{List, [], ◌∷◌, foldr}
 use lib.Dec.{T, eqb}
 use lib.Ieee as Ieee
 use Rattle.numbers.specs.Number.{number, word}
-use Rattle.rounding.specs.Units.{units_of}
-use Rattle.significand.specs.Significand.{significand_of, exponent_of}
-use Rattle.root.specs.Root.{floor_root, near_root, root_of, sqrt}
+use Rattle.root.specs.Root.{sqrt}
 
 rows : List (ℕ × ℕ)
 rows =
@@ -29,5 +27,5 @@ right : ℕ × ℕ → Bool
 right (x, r) = eqb (word (sqrt (number x))) r
 
 roots : T (foldr (λ r b. right r && b) true rows)
-unfolding rows right sqrt root_of near_root floor_root significand_of exponent_of units_of Ieee.of_bits Ieee.to_bits Ieee.size Ieee.odd
+unfolding rows right Ieee.sqrt Ieee.of_bits Ieee.to_bits Ieee.size Ieee.odd
 roots = tt

@@ -7,4 +7,3 @@ pub mod Products
 pub mod Exact
 pub mod Unique
 pub mod Zeros
-pub mod Below

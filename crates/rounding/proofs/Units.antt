@@ -7,14 +7,14 @@ use native.Mathlib.Omega.{arith}
 use lib.IntN.{ℤ, pos, negsuc}
 use lib.Dec.{T, ltb, leb, eqb, ltb→lt, leb→le, lit<}
 use lib.Pow.{pow-add, pow_pos, pow-lt, pow_mono}
-use lib.Ieee.{Float, nan, inf, fin, binary64, up, down, fits, lt, eq, of_bits, of_fields}
+use lib.Ieee.{Float, nan, inf, fin, binary64, up, down, fits, lt, eq}
 use lib.Ieee.Fits.{down_pos, and_l, and_r}
 use lib.Ieee.Exact.{HasValue}
 use lib.Ieee.Positive.{first_pos}
-use borrow.Author.Tests.{lt-leb, ne_eqb, ltb-true}
+use borrow.Author.Tests.{ltb-true}
 use Rattle.numbers.specs.Number.{finite, negative}
 use Rattle.numbers.proofs.Leaves.{clash, nought}
-use Rattle.rounding.specs.Units.{units_in_one, units_of, of_units}
+use Rattle.rounding.specs.Units.{units_in_one, units_of}
 
 -- a number that is a units has that size
 pub units-of-value : (x : Float) (s : Bool) (a : ℕ) → HasValue x s a units_in_one → units_of x ≡ a
@@ -110,14 +110,3 @@ above_zero (fin false m e) f h l =
     let c = counted (fin false m e) f refl in
     let p : 0 < m * up e = subst (λ (k : ℕ). 0 < k) (mul-one (m * up e)) (subst (λ (k : ℕ). k < m * up e * 1) (zero-mul (down e)) (ltb-true (0 * down e) (m * up e * 1) l)) in
     (refl, first_pos (units_of (fin false m e)) (down e) (subst (λ (k : ℕ). 0 < k) c.value.1 (mul-pos p (pow_pos 1074))))
-
--- the bit pattern of q * 2 ^ k units, for a q of 53 digits
-pub pattern-of-units : (k q : ℕ) → k ≤ 2045 → 2 ^ 52 ≤ q → q < 2 ^ 53 → of_bits binary64 (k * 2 ^ 52 + q) ≡ of_units q k
-unfolding of_bits of_fields
-pattern-of-units k q K L H =
-    let s : leb 0x8000_0000_0000_0000 (k * 2 ^ 52 + q) ≡ false = lt-leb 0x8000_0000_0000_0000 (k * 2 ^ 52 + q) (omega arith) in
-    let x : (k * 2 ^ 52 + q) % 0x8000_0000_0000_0000 / 2 ^ 52 ≡ suc k = omega arith in
-    let t : (k * 2 ^ 52 + q) % 2 ^ 52 ≡ q - 2 ^ 52 = omega arith in
-    let n : eqb (suc k) 2047 ≡ false = ne_eqb (suc k) 2047 (λ e. omega arith) in
-    let z : 2 ^ 52 + (q - 2 ^ 52) ≡ q = omega arith in
-    rw (s, x, t, n, z)

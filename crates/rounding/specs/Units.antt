@@ -1,7 +1,7 @@
 -- Numbers (IEEE 754's binary64) counted in units of 2 ^ -1074, the least of them above zero: each finite number is a whole number of units.
-use Rattle.std.specs.Prelude.{ℕ, ◌*◌, ◌/◌, ◌^◌, false, pos, Float}
+use Rattle.std.specs.Prelude.{ℕ, ◌*◌, ◌/◌, ◌^◌, pos, Float}
 use Rattle.std.specs.Float.{nan, inf, fin, binary64}
-use Rattle.std.specs.Float.Ieee.{up, down, odd, of_int}
+use Rattle.std.specs.Float.Ieee.{up, down, of_int}
 
 -- the units in 1
 abbrev pub units_in_one : ℕ
@@ -12,10 +12,6 @@ unfoldable pub units_of : Float → ℕ
 units_of nan = 0
 units_of (inf s) = 0
 units_of (fin s m e) = m * up e * units_in_one / down e
-
--- the number of q * 2 ^ k units, for a q of at most 53 digits
-abbrev pub of_units : ℕ → ℕ → Float
-of_units q k = odd 53 false q k 1074
 
 -- a whole number as a number, rounded to nearest
 abbrev pub whole : ℕ → Float

@@ -54,16 +54,28 @@ pub fn density_sheet(
     })
 }
 
-// Projects the estimate; the density matrix goes to the front of the work slice.
+// Projects the estimate, in rooms of ROOM numbers; the density matrix goes to the front of the work
+// slice.
+fn project_within<const ROOM: usize>(card: &[u8], d: usize, work: &mut [f64]) -> Result<(), Refusal>
+    requires { (1 ≤ d) × (d ≤ 16) × ((3 + 2 * (d * d)) * 8 ≤ length card.now) × (8192 ≤ length work.old) × (2 * (d * d) ≤ ROOM) × (ROOM ≤ 512) }
+    ensures { (result ≡ projected_verdict d (number_at card.now 1) (word_at card.now 2) (estimate_of card.now d)) × (work.new ≡ over (projection_numbers card.now d) work.old) }
+{
+    let count = 2 * square(d);
+    let mut estimate = [0.0; ROOM];
+    numbers::load(card, 3, count, &mut estimate);
+    let most = numbers::word_at(card, 2);
+    density::project_density::<ROOM>(&estimate[..count], d, tolerance_of(card), most, work)
+}
+
+// The same, in as much room as d asks: setting it to zero is no small part of a projection at d 4.
 fn project(card: &[u8], d: usize, work: &mut [f64]) -> Result<(), Refusal>
     requires { (1 ≤ d) × (d ≤ 16) × ((3 + 2 * (d * d)) * 8 ≤ length card.now) × (8192 ≤ length work.old) }
     ensures { (result ≡ projected_verdict d (number_at card.now 1) (word_at card.now 2) (estimate_of card.now d)) × (work.new ≡ over (projection_numbers card.now d) work.old) }
 {
-    let count = 2 * square(d);
-    let mut estimate = [0.0; 512];
-    numbers::load(card, 3, count, &mut estimate);
-    let most = numbers::word_at(card, 2);
-    density::project_density(&estimate[..count], d, tolerance_of(card), most, work)
+    if d <= 4 {
+        return project_within::<32>(card, d, work);
+    }
+    project_within::<512>(card, d, work)
 }
 
 // Kind 2.

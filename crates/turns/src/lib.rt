@@ -1,10 +1,10 @@
 // A rotation of classical Jacobi, in place: only rows and columns p and q are touched.
-#![tactic(auto, using(lists::proofs::Folding::fold_more), unfolding(crate::specs::Rotation::tangent, crate::specs::Rotation::turn_of, crate::specs::Rotation::turned_p, crate::specs::Rotation::turned_q, crate::specs::Steps::row_turned, crate::specs::Steps::mirrored_one, crate::specs::Steps::crossed, lists::specs::Fold::fold))]
+#![tactic(auto, using(lists::proofs::Folding::fold_more), unfolding(crate::specs::Rotation::tangent, crate::specs::Rotation::turn_of, crate::specs::Rotation::turned_p, crate::specs::Rotation::turned_q, crate::specs::Steps::row_turned, crate::specs::Steps::row_rotated, crate::specs::Steps::crossed, lists::specs::Fold::fold))]
 
 ghost use Rattle.std.specs.Prelude.{◌≡◌, ◌+◌, ◌*◌, ◌≤◌, ◌<◌, length};
 ghost use Rattle.entries.specs.Entries.{entries};
 ghost use Rattle.turns.specs.Rotation as spec;
-ghost use Rattle.turns.specs.Steps.{row_turned, mirrored_one, mirrored, crossed};
+ghost use Rattle.turns.specs.Steps.{row_turned, row_rotated, crossed};
 
 use complex::Complex;
 use magnitudes::Pivot;
@@ -24,7 +24,7 @@ pub struct Turn {
 fn tangent(tau: f64) -> f64
     ensures { result ≡ spec.tangent tau }
 {
-    let root = root::sqrt_from_one(1.0 + tau * tau);
+    let root = root::sqrt(1.0 + tau * tau);
     if 0.0 <= tau {
         return 1.0 / (tau + root);
     }
@@ -40,7 +40,7 @@ pub fn turn_of(a: &[f64], n: usize, g: Pivot) -> Turn
     let app = entries::read(a, n, p, p).re;
     let aqq = entries::read(a, n, q, q).re;
     let t = tangent((aqq - app) / (2.0 * best));
-    let c = 1.0 / root::sqrt_from_one(1.0 + t * t);
+    let c = 1.0 / root::sqrt(1.0 + t * t);
     let s = t * c;
     let phase = entries::read(a, n, p, q) / best;
     Turn {
@@ -79,7 +79,7 @@ fn turn_row(a: &mut [f64], n: usize, t: Turn, i: usize)
     entries::write(a, n, i, p, turned_p(t, x, y));
 }
 
-// Columns p and q of r rows: the rotation of the vectors, and the first half of the matrix's.
+/// Columns p and q of the r rows of n entries in `a`: the rotation of the vectors.
 pub fn turn_columns(a: &mut [f64], r: usize, n: usize, t: Turn)
     requires { (length a.old ≡ 2 * (r * n)) × (t.p < n) × (t.q < n) }
     ensures { entries a.new ≡ spec.columns_turned r n t (entries a.old) }
@@ -90,15 +90,21 @@ pub fn turn_columns(a: &mut [f64], r: usize, n: usize, t: Turn)
     }
 }
 
-// Row c from column c.
-fn mirror(a: &mut [f64], n: usize, c: usize)
-    requires { (length a.old ≡ 2 * (n * n)) × (c < n) }
-    ensures { entries a.new ≡ mirrored n c (entries a.old) }
+// Columns p and q of row i, and from these its place in rows p and q.
+fn rotate_row(a: &mut [f64], n: usize, t: Turn, i: usize)
+    requires { (length a.old ≡ 2 * (n * n)) × (i < n) × (t.p < n) × (t.q < n) }
+    ensures { entries a.new ≡ row_rotated n t i (entries a.old) }
 {
-    for k in 0..n {
-        let z = entries::read(a, n, k, c);
-        entries::write(a, n, c, k, z.conjugate());
-    }
+    let p = t.p;
+    let q = t.q;
+    let x = entries::read(a, n, i, p);
+    let y = entries::read(a, n, i, q);
+    let u = turned_p(t, x, y);
+    let w = turned_q(t, x, y);
+    entries::write(a, n, i, q, w);
+    entries::write(a, n, i, p, u);
+    entries::write(a, n, q, i, w.conjugate());
+    entries::write(a, n, p, i, u.conjugate());
 }
 
 // The four entries where rows and columns p and q meet.
@@ -114,13 +120,13 @@ fn cross(a: &mut [f64], n: usize, t: Turn)
     entries::write(a, n, p, p, Complex::from(t.pp));
 }
 
-// The rotation of the matrix.
+/// The rotation of the n by n matrix in `a`.
 pub fn rotate(a: &mut [f64], n: usize, t: Turn)
     requires { (length a.old ≡ 2 * (n * n)) × (t.p < n) × (t.q < n) }
     ensures { entries a.new ≡ spec.turned n t (entries a.old) }
 {
-    turn_columns(a, n, n, t);
-    mirror(a, n, t.q);
-    mirror(a, n, t.p);
+    for i in 0..n {
+        rotate_row(a, n, t, i);
+    }
     cross(a, n, t);
 }

@@ -1,7 +1,7 @@
 -- Document 01's worked cards, as rows of one list: a card's words, and the outcome of its sheet.
 use Rattle.std.specs.Prelude.{Ok, ℕ, ◌≡◌, refl, true, false, List, [], ◌∷◌}
 use Rattle.std.specs.Float.{binary64}
-use Rattle.std.specs.Float.Ieee.{is_nan, of_bits, of_fields, odd, to_bits, add, sub, mul, div, neg, sum, round, units, lt, le, eq, span, climb, size, of_int}
+use Rattle.std.specs.Float.Ieee.{is_nan, of_bits, of_fields, odd, to_bits, add, sub, mul, div, sqrt, neg, sum, round, units, lt, le, eq, span, climb, size, of_int}
 use Rattle.lists.specs.Build.{from, build, joined}
 use Rattle.lists.specs.Fold.{fold}
 use Rattle.numbers.specs.Word.{word_at}
@@ -25,14 +25,13 @@ use Rattle.model_words.specs.Words.{numbers_of, gate_words, gates_words, model_w
 use Rattle.gauge.specs.Gauge.{threshold_of, inverted_of, inverse_in, new_state, new_effect, new_gate, transformed, new_model, gauged_of}
 use Rattle.rounding.specs.Units.{units_of}
 use Rattle.significand.specs.Significand.{significand_of, exponent_of}
-use Rattle.root.specs.Root.{floor_root, near_root, root_of, sqrt}
 use Rattle.complex.specs.Arithmetic.{plus, minus, times as complex_times, scaled, divided, conjugate, min, magnitude}
 use Rattle.entries.specs.Entries.{entries, parts_of, matrix}
 use Rattle.magnitudes.specs.Pivot.{scale_by, scale_of as matrix_scale, larger, pivot_in, pivot_of}
 use Rattle.turns.specs.Rotation.{tangent, turn_of, turned_p, turned_q, columns_at, columns_turned, turned_at, turned}
 use Rattle.sorting.specs.Sort.{before, insert, order_by, sorted_by}
 use Rattle.filling.specs.Filling.{excess, sum_from, stays, active_count, threshold, lowered, filling}
-use Rattle.eigen.specs.Jacobi.{jacobi, unit_at as unit_vector_at, unit, diagonal, columns_in, ascending, eig_of, ascending_values, eigenvalues_of}
+use Rattle.eigen.specs.Jacobi.{jacobi, unit_at as unit_vector_at, unit, diagonal, columns_in, ascending, eig_of, values_of}
 use Rattle.density.specs.Projection.{halved_at, halved, term_at, mixed_at, mixed, spectral_numbers, spectral_verdict, admission, projected_verdict, projected_numbers}
 use Rattle.choi.specs.Choi.{coefficient, term, choi_part, choi_of, choi_tested}
 use Rattle.positivity.specs.Positivity.{none_below, choi_values, positivity_verdict, completely_positive}
@@ -98,5 +97,5 @@ rows =
     ∷ []
 
 pub rows_right : Right rows
-unfolding card is_nan from build joined fold word_at finite positive abs max negative precedes numbers_at words_of blank all_finite times model_roles record_roles after_word0 layout breaks faulty unknown limits_of past no_matrix word0_breaks qubits_break sequence_breaks indices_break model_at header examined word_at_fault size_at_fault at_fault lowest fault_of length_read read_of product pauli_matrices string_entry pinned weight density_part density_of vet_of admitted tested_of sum_of dot_of mat_vec_of row_mat_of mat_mul_of swapped divided_row less_row eliminated_row eliminated cleared_by scale_of larger_row pivot_row beside_at beside_identity column_reduced reduction_of right_halves invertible inverse_of model_of state_of effect_of name_of gate_of transform_of any_of checked_of numbers_of gate_words gates_words model_words_of threshold_of inverted_of inverse_in new_state new_effect new_gate transformed new_model gauged_of finite_or checked_numbers units_of significand_of exponent_of floor_root near_root root_of sqrt plus minus complex_times scaled divided conjugate min magnitude entries parts_of matrix scale_by matrix_scale larger pivot_in pivot_of tangent turn_of turned_p turned_q columns_at columns_turned turned_at turned before insert order_by sorted_by excess sum_from stays active_count threshold lowered filling jacobi unit_vector_at unit diagonal columns_in ascending eig_of ascending_values eigenvalues_of coefficient term choi_part choi_of choi_tested none_below choi_values tolerance_of positivity_verdict completely_positive unit_at near near_unit trace_preserving unital halved_at halved term_at mixed_at mixed spectral_numbers spectral_verdict admission projected_verdict projected_numbers density_sheet projected_sheet process_sheet_of physical_of gauge_verdict gauge_sheet through measured probabilities_of present_of bad_probability any_bad failing clamped total_of counted_of plus_term with_term with_terms with_record counts_of record_onward likelihood_by nested ln1p ln_ratio entry_of poly ln_part ln_of ln_by ln sequence_of count_in tolerance_sheet diagnostics_sheet config_of good_config has_entry place_of places_of repeated parameter_verdict parameters_verdict request_verdict coordinate_in coordinate_breaks put usable distance objective_of evaluate displacement derivative gradient norm step_length trial search_to step after_steps closed fit_of fit_words request_sheet fit_sheet model_sheet kind_sheet sheet_of of_bits of_fields odd to_bits add sub mul div neg sum round units lt le eq span climb size of_int
+unfolding card is_nan from build joined fold word_at finite positive abs max negative precedes numbers_at words_of blank all_finite times model_roles record_roles after_word0 layout breaks faulty unknown limits_of past no_matrix word0_breaks qubits_break sequence_breaks indices_break model_at header examined word_at_fault size_at_fault at_fault lowest fault_of length_read read_of product pauli_matrices string_entry pinned weight density_part density_of vet_of admitted tested_of sum_of dot_of mat_vec_of row_mat_of mat_mul_of swapped divided_row less_row eliminated_row eliminated cleared_by scale_of larger_row pivot_row beside_at beside_identity column_reduced reduction_of right_halves invertible inverse_of model_of state_of effect_of name_of gate_of transform_of any_of checked_of numbers_of gate_words gates_words model_words_of threshold_of inverted_of inverse_in new_state new_effect new_gate transformed new_model gauged_of finite_or checked_numbers units_of significand_of exponent_of plus minus complex_times scaled divided conjugate min magnitude entries parts_of matrix scale_by matrix_scale larger pivot_in pivot_of tangent turn_of turned_p turned_q columns_at columns_turned turned_at turned before insert order_by sorted_by excess sum_from stays active_count threshold lowered filling jacobi unit_vector_at unit diagonal columns_in ascending eig_of values_of coefficient term choi_part choi_of choi_tested none_below choi_values tolerance_of positivity_verdict completely_positive unit_at near near_unit trace_preserving unital halved_at halved term_at mixed_at mixed spectral_numbers spectral_verdict admission projected_verdict projected_numbers density_sheet projected_sheet process_sheet_of physical_of gauge_verdict gauge_sheet through measured probabilities_of present_of bad_probability any_bad failing clamped total_of counted_of plus_term with_term with_terms with_record counts_of record_onward likelihood_by nested ln1p ln_ratio entry_of poly ln_part ln_of ln_by ln sequence_of count_in tolerance_sheet diagnostics_sheet config_of good_config has_entry place_of places_of repeated parameter_verdict parameters_verdict request_verdict coordinate_in coordinate_breaks put usable distance objective_of evaluate displacement derivative gradient norm step_length trial search_to step after_steps closed fit_of fit_words request_sheet fit_sheet model_sheet kind_sheet sheet_of of_bits of_fields odd to_bits add sub mul div sqrt neg sum round units lt le eq span climb size of_int
 rows_right = (refl, (refl, (refl, (refl, (refl, (refl, (refl, (refl, (refl, (refl, (refl, (refl, (refl, tt)))))))))))))

@@ -5,4 +5,4 @@ use Rattle.objective.proofs.norm.Goals as goal
 
 pub returns : goal.returns
 unfolding dot_of
-returns c = c.sqrt.ensures ∙ ap sqrt c.dot-s.ensures
+returns c = c.sqrt.ensures.value ∙ ap sqrt c.dot-s.ensures

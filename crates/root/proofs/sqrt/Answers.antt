@@ -1,24 +1,21 @@
-use mathlib.Core.Path.{sym, subst}
+use mathlib.Core.Path.{sym, ◌∙◌, subst}
 use lib.Dec.{T}
-use lib.Ieee.{div, of_bits}
-use Rattle.significand.proofs.Exact.{finite-units, infinite}
-use Rattle.root.proofs.Cases.{of-infinity, of_positive, of_zero, of_other}
+use Rattle.root.specs.Nearest.{Nearest}
+use Rattle.root.proofs.Cases.{of-infinity, of-nan, of-negative, of-zero}
+use Rattle.root.proofs.Nearest.{nearest}
 use Rattle.root.proofs.sqrt.Goals as goal
 
-pub returns-in-Some : goal.returns-in-Some
-unfolding of_bits
-returns-in-Some c =
-    let e = c.in-Some.ensures in
-    rw (of_positive _ c.if-x.true (finite-units _ e.0), ← e.1, ← e.2) c.root_of.ensures
+pub returns-clause-nearest : goal.returns-clause-nearest
+returns-clause-nearest c g l = subst (Nearest c.args.x) (sym c.sqrt.ensures.value) (nearest c.args.x (subst T (sym c.well_formed.0.1) tt) g l)
 
-pub returns-in-None : goal.returns-in-None
-unfolding of_bits
-returns-in-None c = of-infinity _ (infinite _ (subst T (sym c.well_formed.0.1) tt) c.if-x.true c.in-None.ensures.0)
+pub returns-clause-of_a_zero : goal.returns-clause-of_a_zero
+returns-clause-of_a_zero c h = c.sqrt.ensures.value ∙ of-zero c.args.x (subst T (sym c.well_formed.0.1) tt) h
 
-pub returns-then-x-2 : goal.returns-then-x-2
-unfolding of_bits
-returns-then-x-2 c = of_zero _ c.if-x-2.true
+pub returns-clause-of_infinity : goal.returns-clause-of_infinity
+returns-clause-of_infinity c h = c.sqrt.ensures.value ∙ of-infinity c.args.x h
 
-pub returns : goal.returns
-unfolding of_bits div
-returns c = of_other _ c.if-x.false c.if-x-2.false
+pub returns-clause-of_a_negative : goal.returns-clause-of_a_negative
+returns-clause-of_a_negative c h = c.sqrt.ensures.value ∙ of-negative c.args.x h
+
+pub returns-clause-of_a_nan : goal.returns-clause-of_a_nan
+returns-clause-of_a_nan c h = c.sqrt.ensures.value ∙ of-nan c.args.x h
