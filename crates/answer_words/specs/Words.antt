@@ -3,7 +3,6 @@ use Rattle.std.specs.Prelude.{Err, Ok, ℕ, List, [], ◌∷◌}
 use Rattle.refusal.specs.Values.{code_of, value_a, value_b}
 use Rattle.refusal.specs.declared.Refusal.{Refusal}
 use Rattle.card.specs.Reading.{Reading}
-use Rattle.descent.specs.Stop.{stop_number, converged}
 use Rattle.outcome.specs.declared.Answer.{Answer}
 use Rattle.outcome.specs.declared.Answer.TheVariants as answer
 use Rattle.outcome.specs.Outcome.{Answered, bit_of}
@@ -21,7 +20,7 @@ told_words (answer.Density d) = header_words 1 d 0 0 0
 told_words (answer.Projected d) = header_words 2 d 0 0 0
 told_words (answer.Process p) = header_words 3 p 0 0 0
 told_words (answer.Physical t u c) = header_words 4 (bit_of t) (bit_of u) (bit_of c) 0
-told_words (answer.Fit r s e w) = header_words 5 (stop_number r) s e (bit_of (converged r))
+told_words (answer.Fit r s e v w) = header_words 5 r s e (bit_of v)
 told_words (answer.Model w) = header_words 6 w 0 0 0
 told_words answer.Diagnostics = header_words 7 0 0 0 0
 told_words (answer.Probes c) = header_words 8 c 0 0 0

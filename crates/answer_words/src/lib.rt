@@ -27,11 +27,9 @@ fn told_words(a: Answer) -> [u64; 5]
             stop,
             steps,
             evaluations,
+            converged,
             ..
-        } => {
-            let converged = u64::from(stop.has_converged());
-            [5, stop.number(), steps, evaluations, converged]
-        }
+        } => [5, stop, steps, evaluations, u64::from(converged)],
         Answer::Model { words } => [6, words, 0, 0, 0],
         Answer::Diagnostics => [7, 0, 0, 0, 0],
         Answer::Probes { count } => [8, count, 0, 0, 0],

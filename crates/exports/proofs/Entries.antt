@@ -18,9 +18,7 @@ use Rattle.outcome.specs.Outcome.{Answered, Lent, Outcome, refused, in_room, Cal
 use Rattle.outcome.specs.declared.Answer.TheVariants.{Fit}
 use Rattle.card_layout.specs.declared.Header.{Header}
 use Rattle.card.specs.Reading.{read_of}
-use Rattle.descent.specs.declared.GstTermination.{GstTermination}
 use Rattle.descent.specs.Claim.{distinct}
-use Rattle.descent.specs.Stop.{stop_number, converged}
 use Rattle.parameters.specs.Parameters.{places_of}
 use Rattle.fit_sheets.specs.Buyer.{Buyer}
 use Rattle.tomography.specs.Sheet.{sheet_of, Sheet}
@@ -85,18 +83,18 @@ module _ {F : Type 0} {g : Once F Lent (Answered × Lent)} {f : F} where
   sheet-exported card {result₀} {result₁} {work₀} {work₁} {answer₀} {answer₁} {r} calls t =
       record {
         exported = exported (sheet_of card) (λ p p' q q' a e. (calls p p' q q' a e).call) t;
-        fit = λ k c d q R S E M e. go (leb 5 (length answer₀)) refl k c d q R S E M e;
+        fit = λ k c d q R S E v M e. go (leb 5 (length answer₀)) refl k c d q R S E v M e;
       }
     where
       go : (b : Bool) → leb 5 (length answer₀) ≡ b → (h : Header) → read_of card ≡ Ok h → h.kind ≡ 5 → distinct (places_of card h) ≡ true
-          → (R : GstTermination) (S E M : ℕ) → (exported_of (sheet_of card) result₀ work₀ answer₀).answer ≡ Ok (Fit R S E M) → Buyer card h (stop_number R) S E (converged R) result₁
-      go true b k c d q R S E M e =
+          → (R S E : ℕ) (v : Bool) (M : ℕ) → (exported_of (sheet_of card) result₀ work₀ answer₀).answer ≡ Ok (Fit R S E v M) → Buyer card h R S E v result₁
+      go true b k c d q R S E v M e =
           let h = leb-true 5 (length answer₀) b in
           let m = t.made h in
           let s : Sheet card result₀ result₁ work₀ work₁ m.0 =
           rw (← m.1.shows.0, ← m.1.shows.1, ← m.1.shows.2, ← m.1.shows.3) (calls m.1.lent m.1.left m.1.work_lent m.1.work_left m.0 m.1.met) in
-          s.fit k c d q R S E M (s.call.gives.answer ∙ ap (λ (x : Outcome). x.answer) (with-room (sheet_of card) result₀ result₁ work₀ work₁ answer₀ answer₁ h) ∙ e)
-      go false b k c d q R S E M e =
-          let none : ◌≡◌ {A = Answered} (Err ShortBuffer) (Ok (Fit R S E M)) =
+          s.fit k c d q R S E v M (s.call.gives.answer ∙ ap (λ (x : Outcome). x.answer) (with-room (sheet_of card) result₀ result₁ work₀ work₁ answer₀ answer₁ h) ∙ e)
+      go false b k c d q R S E v M e =
+          let none : ◌≡◌ {A = Answered} (Err ShortBuffer) (Ok (Fit R S E v M)) =
           ap (λ (x : Outcome). x.answer) (no_room (sheet_of card) result₀ result₁ work₀ work₁ answer₀ answer₁ (leb-false 5 (length answer₀) b)) ∙ e in
           cc

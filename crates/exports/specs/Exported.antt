@@ -10,9 +10,7 @@ use Rattle.card.specs.Reading.{read_of}
 use Rattle.outcome.specs.declared.Answer.TheVariants as answer
 use Rattle.outcome.specs.Outcome.{Answered, Lent, Outcome, refused, in_room}
 use Rattle.answer_words.specs.Words.{answer_words, answer_code, reading_words, reading_code}
-use Rattle.descent.specs.declared.GstTermination.{GstTermination}
 use Rattle.descent.specs.Claim.{distinct}
-use Rattle.descent.specs.Stop.{stop_number, converged}
 use Rattle.parameters.specs.Parameters.{places_of}
 use Rattle.fit_sheets.specs.Buyer.{Buyer}
 use Rattle.tomography.specs.Sheet.{sheet_of}
@@ -54,7 +52,7 @@ pub record Exported (o : Outcome) (result₀ result₁ : List ℕ) (work₀ work
 pub record SheetExported (card result₀ result₁ : List ℕ) (work₀ work₁ : List Float) (answer₀ answer₁ : List ℕ) (r : ℕ) : Type 0 where
   pub exported : Exported (sheet_of card) result₀ result₁ work₀ work₁ answer₀ answer₁ r
   pub fit : (h : Header) → read_of card ≡ Ok h → h.kind ≡ 5 → distinct (places_of card h) ≡ true
-      → (R : GstTermination) (S E M : ℕ) → (exported_of (sheet_of card) result₀ work₀ answer₀).answer ≡ Ok (answer.Fit R S E M) → Buyer card h (stop_number R) S E (converged R) result₁
+      → (R S E : ℕ) (v : Bool) (M : ℕ) → (exported_of (sheet_of card) result₀ work₀ answer₀).answer ≡ Ok (answer.Fit R S E v M) → Buyer card h R S E v result₁
 
 -- the reading of a card
 pub record ReadExported (card answer₀ answer₁ : List ℕ) (r : ℕ) : Type 0 where

@@ -3,7 +3,7 @@ use Rattle.std.proofs.Common.{Err, Ok}
 use Rattle.refusal.specs.Verdicts.{good, Verdict, after}
 use Prim.Native.Nat.{ℕ, ◌+◌, ◌*◌, ◌≤◌, ◌<◌}
 use mathlib.Core.Path.{◌≡◌, refl, sym, ap, subst, ◌∙◌}
-use mathlib.Core.Bool.{true}
+use mathlib.Core.Bool.{Bool, true}
 use mathlib.Core.List.{List, ◌++◌}
 use native.Mathlib.Omega.{arith}
 use lib.ListN.{length, get_or, take, length-append, get_or-append}
@@ -26,8 +26,6 @@ use Rattle.model_words.proofs.Sizes.{length-model}
 use Rattle.model_words.proofs.Entries.{length-model-words, name-word}
 use Rattle.descent.specs.Fit.{Fitted, fitted, unfitted, fit_of}
 use Rattle.descent.specs.Fit as descent
-use Rattle.descent.specs.declared.GstTermination.{GstTermination}
-use Rattle.descent.specs.Stop.{stop_number, converged}
 use Rattle.descent.specs.Claim.{distinct, Sound, Claimed, Counted}
 use Rattle.descent.proofs.Points.{claimed}
 use Rattle.descent.proofs.Counts.{evaluations-bound}
@@ -102,18 +100,17 @@ module _ (s : List ℕ) (h : Header) (bytes : (i : ℕ) → get_or s i 0 < 256) 
           subst (λ (n : ℕ). f.evaluations ≤ 1 + 2 * n * (word_at s 1 + 1) + word_at s 1 * word_at s 7) (length-places s h)
           (subst (Counted (job_of s h)) e (evaluations-bound (job_of s h)))
 
-      borne : {R : GstTermination} {S E M : ℕ} {m : List ℕ} → ◌≡◌ {A = Answered} (Ok (Fit R S E M)) (outcome_sheet s h (fitted f)).answer → m ≡ over (fit_words s h f) l
-          → Buyer s h (stop_number R) S E (converged R) m
-      borne {R} {S} {E} {M} {m} a w =
+      borne : {R S E : ℕ} {v : Bool} {M : ℕ} {m : List ℕ} → ◌≡◌ {A = Answered} (Ok (Fit R S E v M)) (outcome_sheet s h (fitted f)).answer → m ≡ over (fit_words s h f) l
+          → Buyer s h R S E v m
+      borne {R} {S} {E} {v} {M} {m} a w =
           let c = subst (Claimed (job_of s h)) e (claimed (job_of s h) sound) in
-          let stopped : R ≡ f.stop = cc in
-          subst (Buyer s h (stop_number R) S E (converged R)) (sym w)
+          subst (Buyer s h R S E v) (sym w)
           (record {
             fit = f;
-            reason = ap stop_number stopped;
+            reason = cc;
             steps = cc;
             evaluations = cc;
-            convergence = ap converged stopped;
+            convergence = cc;
             words = all_words s h f l;
             points = c.0;
             claim = c.1;
@@ -125,26 +122,26 @@ module _ (s : List ℕ) (h : Header) (bytes : (i : ℕ) → get_or s i 0 < 256) 
 -- ---- the sheet
 
 -- a refusal is no fit
-never-fit : {A : Type 0} {R : GstTermination} {S E M : ℕ} {r : Refusal} → ◌≡◌ {A = Answered} (Ok (Fit R S E M)) (Err r) → A
+never-fit : {A : Type 0} {R S E : ℕ} {v : Bool} {M : ℕ} {r : Refusal} → ◌≡◌ {A = Answered} (Ok (Fit R S E v M)) (Err r) → A
 never-fit e = cc
 
-pub buyer : (s : List ℕ) (h : Header) → ((i : ℕ) → get_or s i 0 < 256) → distinct (places_of s h) ≡ true → {R : GstTermination} {S E M : ℕ} {l m : List ℕ} → Gives (fit_sheet s h) l m (Ok (Fit R S E M))
-    → Buyer s h (stop_number R) S E (converged R) m
+pub buyer : (s : List ℕ) (h : Header) → ((i : ℕ) → get_or s i 0 < 256) → distinct (places_of s h) ≡ true → {R S E : ℕ} {v : Bool} {M : ℕ} {l m : List ℕ} → Gives (fit_sheet s h) l m (Ok (Fit R S E v M))
+    → Buyer s h R S E v m
 unfolding fit_sheet request_sheet
-buyer s h bytes different {R} {S} {E} {M} {l} {m} g = checked (checked_of s h) refl g.answer g.written
+buyer s h bytes different {R} {S} {E} {v} {M} {l} {m} g = checked (checked_of s h) refl g.answer g.written
   where
     sheet : descent.Outcome → Outcome
     sheet o = outcome_sheet s h o
 
-    ended : checked_of s h ≡ good → request_verdict s h ≡ good → (o : descent.Outcome) → fit_of (job_of s h) ≡ o → ◌≡◌ {A = Answered} (Ok (Fit R S E M)) (sheet o).answer → m ≡ over (sheet o).words l → Buyer s h (stop_number R) S E (converged R) m
+    ended : checked_of s h ≡ good → request_verdict s h ≡ good → (o : descent.Outcome) → fit_of (job_of s h) ≡ o → ◌≡◌ {A = Answered} (Ok (Fit R S E v M)) (sheet o).answer → m ≡ over (sheet o).words l → Buyer s h R S E v m
     ended c q (fitted f) e a w = borne s h bytes c q different f l e a w
     ended c q (unfitted r) e a w = never-fit a
 
-    requested : checked_of s h ≡ good → (x : Verdict) → request_verdict s h ≡ x → ◌≡◌ {A = Answered} (Ok (Fit R S E M)) (after x refused (sheet (fit_of (job_of s h)))).answer
-        → m ≡ over (after x refused (sheet (fit_of (job_of s h)))).words l → Buyer s h (stop_number R) S E (converged R) m
+    requested : checked_of s h ≡ good → (x : Verdict) → request_verdict s h ≡ x → ◌≡◌ {A = Answered} (Ok (Fit R S E v M)) (after x refused (sheet (fit_of (job_of s h)))).answer
+        → m ≡ over (after x refused (sheet (fit_of (job_of s h)))).words l → Buyer s h R S E v m
     requested c (Ok _) q a w = ended c q (fit_of (job_of s h)) refl a w
     requested c (Err r) q a w = never-fit a
 
-    checked : (x : Verdict) → checked_of s h ≡ x → ◌≡◌ {A = Answered} (Ok (Fit R S E M)) (after x refused (request_sheet s h)).answer → m ≡ over (after x refused (request_sheet s h)).words l → Buyer s h (stop_number R) S E (converged R) m
+    checked : (x : Verdict) → checked_of s h ≡ x → ◌≡◌ {A = Answered} (Ok (Fit R S E v M)) (after x refused (request_sheet s h)).answer → m ≡ over (after x refused (request_sheet s h)).words l → Buyer s h R S E v m
     checked (Ok _) c a w = requested c (request_verdict s h) refl a w
     checked (Err r) c a w = never-fit a

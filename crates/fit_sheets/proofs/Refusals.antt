@@ -61,7 +61,7 @@ low-in (Err Probabilities) p = tt
 low-in (Err (Refused r)) p = p.low
 
 sound-outcome : (s : List ℕ) (h : Header) (o : descent.Outcome) → InOutcome NotShort o → Sound (outcome_sheet s h o)
-sound-outcome s h (fitted f) p = shown-sound good (Fit _ _ _ _) _ lower-good
+sound-outcome s h (fitted f) p = shown-sound good (Fit _ _ _ _ _) _ lower-good
 sound-outcome s h (unfitted r) p = other r p
 
 pub fit-sheet-sound : (s : List ℕ) (h : Header) → Sound (fit_sheet s h)

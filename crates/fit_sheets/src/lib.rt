@@ -51,9 +51,10 @@ fn show_fit(card: &Card<'_>, f: Shown, model: &[f64], res: &mut [u64]) -> Answer
 {
     put_words(card, f, model, res);
     Answer::Fit {
-        stop: f.stop,
+        stop: f.stop.number(),
         steps: f.steps,
         evaluations: f.evaluations,
+        converged: f.stop.has_converged(),
         words: card.layout().model_words() as u64,
     }
 }

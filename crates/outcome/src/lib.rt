@@ -4,7 +4,6 @@
 ghost use Rattle.std.specs.Prelude.{◌≡◌};
 ghost use Rattle.outcome.specs.Outcome.{Outcome, roomy, Call, MayRun, Runs};
 
-use descent::GstTermination;
 use refusal::Refusal;
 
 // The header of a sheet, or what an entry of the library tells. There is a case for each that is built. A call answers `Result<Answer, Refusal>`.
@@ -24,11 +23,13 @@ pub enum Answer {
         unital: bool,
         completely_positive: bool,
     },
-    // Why the fit stopped, of which document 01's R and V are told, S and E; and how many words the model has, which the header does not show.
+    // The sheet's R, S, E and V, and how many words the model has, which the header does not show.
+    // Any R with either V can be told.
     Fit {
-        stop: GstTermination,
+        stop: u64,
         steps: u64,
         evaluations: u64,
+        converged: bool,
         words: u64,
     },
     Model {

@@ -5,7 +5,6 @@ use Rattle.std.specs.Fmt.{decimal, digits}
 use Rattle.lists.specs.Build.{build}
 use Rattle.refusal.specs.declared.Refusal.{Refusal}
 use Rattle.refusal.specs.Values.{code_of, value_a, value_b}
-use Rattle.descent.specs.Stop.{stop_number, converged}
 use Rattle.outcome.specs.declared.Answer.{Answer}
 use Rattle.outcome.specs.declared.Answer.TheVariants.{Density, Projected, Process, Physical, Fit, Model, Diagnostics, Probes, Setting, Applied, Choi, Probabilities}
 use Rattle.outcome.specs.Outcome.{Answered, bit_of}
@@ -60,7 +59,7 @@ answer_lines (Density d) words = header_line (codes "density") d ∷ entries_sho
 answer_lines (Projected d) words = header_line (codes "projected") d ∷ entries_shown d words
 answer_lines (Process p) words = header_line (codes "process") p ∷ square_shown p words
 answer_lines (Physical t u c) words = tests_line t u c ∷ []
-answer_lines (Fit r s e m) words = fit_line (stop_number r) s e (converged r) ∷ fit_shown m words
+answer_lines (Fit r s e v m) words = fit_line r s e v ∷ fit_shown m words
 answer_lines (Model m) words = header_line (codes "model") m ∷ words_shown m words
 answer_lines Diagnostics words = codes "diagnostics" ∷ words_shown 2 words
 answer_lines (Probes p) words = header_line (codes "probes") p ∷ square_shown p words

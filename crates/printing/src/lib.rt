@@ -4,13 +4,11 @@
 ghost use Rattle.std.specs.Prelude.{◌≡◌, ◌+◌, ◌*◌, ◌≤◌, ◌<◌, ◌++◌, ◌∷◌, [], length, codes};
 ghost use Rattle.std.specs.Fmt.{decimal};
 ghost use Rattle.lists.specs.Build.{build};
-ghost use Rattle.descent.specs.Stop.{stop_number, converged};
 ghost use Rattle.printing.specs.Outputs.{Writes};
 ghost use Rattle.printing.specs.Text.{lines_text, header_line, refusal_line, tests_line, fit_line, word_line, entry_line, words_shown, square_shown, entries_shown, fit_shown, answer_lines, sheet_lines, reading_lines};
 ghost use Rattle.printing.specs.Lines.{word_lines, square_lines, entry_lines, fit_lines, answer_line_count, lines_of};
 
 use card_layout::Header;
-use descent::GstTermination;
 use outcome::Answer;
 use refusal::Refusal;
 use std::io::Write;
@@ -135,17 +133,18 @@ fn print_tests<W: Write>(out: &mut Output<W>, t: bool, u: bool, c: bool) -> usiz
 // `fit R S E V`, six numbers and the words of the model.
 fn print_fit<W: Write>(
     out: &mut Output<W>,
-    stop: GstTermination,
+    stop: u64,
     steps: u64,
     evaluations: u64,
+    converged: bool,
     words: u64,
     res: &[u64],
 ) -> usize
     ensures lines { result ≡ fit_lines words (length res.now) }
-    ensures text { Writes W.contents out.old out.new (lines_text (fit_line (stop_number stop) steps evaluations (converged stop) ∷ fit_shown words res.now)) }
+    ensures text { Writes W.contents out.old out.new (lines_text (fit_line stop steps evaluations converged ∷ fit_shown words res.now)) }
 {
-    let (reason, converged) = (stop.number(), u64::from(stop.has_converged()));
-    writeln!(out, "fit {reason} {steps} {evaluations} {converged}");
+    let converged = u64::from(converged);
+    writeln!(out, "fit {stop} {steps} {evaluations} {converged}");
     if 4096 < words {
         return 1;
     }
@@ -170,8 +169,9 @@ fn print_answer<W: Write>(out: &mut Output<W>, answer: Answer, res: &[u64]) -> u
             stop,
             steps,
             evaluations,
+            converged,
             words,
-        } => print_fit(out, stop, steps, evaluations, words, res),
+        } => print_fit(out, stop, steps, evaluations, converged, words, res),
         Answer::Model { words } => print_list(out, "model", words, res),
         Answer::Diagnostics => print_diagnostics(out, res),
         Answer::Probes { count } => print_square(out, "probes", count, res),

@@ -2,7 +2,7 @@
 use Rattle.std.specs.Prelude.{ℕ}
 use Rattle.numbers.specs.Number.{word}
 use Rattle.refusal.specs.declared.Reason.{Reason}
-use Rattle.refusal.specs.declared.Reason.TheVariants.{Controls, NoRecords, NoCoordinates, RepeatedCoordinate, GradientNotFinite, Name}
+use Rattle.refusal.specs.declared.Reason.TheVariants.{Controls, NoRecords, NoCoordinates, RepeatedCoordinate, GradientNotFinite, Name, Other}
 use Rattle.refusal.specs.declared.Refusal.{Refusal}
 use Rattle.refusal.specs.declared.Refusal.TheVariants.{InvalidQubits, Shape, NonFinite, InvalidNormalization, InvalidTolerance, Operator, UnknownGate, InvalidProbabilities, CountOverflow, SingularGaugeTransform, SingularProcessDesign, EigensolverDidNotConverge, InvalidGstOptimization, InvalidGstParameter, InvalidCard, ShortBuffer}
 
@@ -33,6 +33,7 @@ reason_number NoCoordinates = 3
 reason_number RepeatedCoordinate = 4
 reason_number GradientNotFinite = 5
 reason_number Name = 6
+reason_number (Other n) = n
 
 -- A
 abbrev pub value_a : Refusal → ℕ

@@ -9,12 +9,14 @@ ghost use Rattle.refusal.specs.Verdicts.{finite_or, checked_numbers, counted_of,
 // Why a fit cannot be run, which the Rust says in words.
 #[derive(Clone, Copy, Debug, PartialEq, Eq)]
 pub enum Reason {
-    Controls = 1,
-    NoRecords = 2,
-    NoCoordinates = 3,
-    RepeatedCoordinate = 4,
-    GradientNotFinite = 5,
-    Name = 6,
+    Controls,
+    NoRecords,
+    NoCoordinates,
+    RepeatedCoordinate,
+    GradientNotFinite,
+    Name,
+    // A number that none of these has: nothing here gives it, but any can be told.
+    Other(u64),
 }
 
 impl Reason {
@@ -22,7 +24,15 @@ impl Reason {
     pub fn number(self) -> u64
         ensures { result ≡ reason_number self }
     {
-        self as u64
+        match self {
+            Reason::Controls => 1,
+            Reason::NoRecords => 2,
+            Reason::NoCoordinates => 3,
+            Reason::RepeatedCoordinate => 4,
+            Reason::GradientNotFinite => 5,
+            Reason::Name => 6,
+            Reason::Other(number) => number,
+        }
     }
 }
 

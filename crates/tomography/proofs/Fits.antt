@@ -43,8 +43,8 @@ module _ {card result₀ result₁ : List ℕ} {work₀ work₁ : List Float} {r
   promised c =
       record {
         call = c;
-        fit = λ h a k d R S E M e.
+        fit = λ h a k d R S E v M e.
             buyer card h bytes d
-            (subst (λ (o : Outcome). Gives o result₀ result₁ (Ok (Fit R S E M))) (read_sheet-fit card h a k)
+            (subst (λ (o : Outcome). Gives o result₀ result₁ (Ok (Fit R S E v M))) (read_sheet-fit card h a k)
             (shown-in (roomy result₀ work₀) (sheet_of card) (subst (λ (x : Answered). Gives (in_room result₀ work₀ (sheet_of card)) result₀ result₁ x) e c.gives)));
       }

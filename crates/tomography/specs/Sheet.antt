@@ -1,10 +1,8 @@
 -- The sheet of a card, by its kind (document 01's table), and what a call of the entry point promises.
-use Rattle.std.specs.Prelude.{Err, Ok, ℕ, ◌≡◌, true, cond, List, eqb, Float}
+use Rattle.std.specs.Prelude.{Err, Ok, ℕ, ◌≡◌, Bool, true, cond, List, eqb, Float}
 use Rattle.card_layout.specs.declared.Header.{Header}
 use Rattle.card.specs.Reading.{Reading, read_of}
-use Rattle.descent.specs.declared.GstTermination.{GstTermination}
 use Rattle.descent.specs.Claim.{distinct}
-use Rattle.descent.specs.Stop.{stop_number, converged}
 use Rattle.parameters.specs.Parameters.{places_of}
 use Rattle.outcome.specs.declared.Answer.TheVariants.{Fit}
 use Rattle.outcome.specs.Outcome.{Answered, Outcome, refused, Call}
@@ -41,4 +39,4 @@ pub record Sheet (card result₀ result₁ : List ℕ) (work₀ work₁ : List F
   pub call : Call (sheet_of card) result₀ result₁ work₀ work₁ r
   -- the buyer's statement, of every fit whose coordinates name different entries
   pub fit : (h : Header) → read_of card ≡ Ok h → h.kind ≡ 5 → distinct (places_of card h) ≡ true
-      → (R : GstTermination) (S E M : ℕ) → r ≡ Ok (Fit R S E M) → Buyer card h (stop_number R) S E (converged R) result₁
+      → (R S E : ℕ) (v : Bool) (M : ℕ) → r ≡ Ok (Fit R S E v M) → Buyer card h R S E v result₁

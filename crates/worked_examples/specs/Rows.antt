@@ -46,7 +46,6 @@ use Rattle.card_parts.specs.Parts.{sequence_of, count_in, coordinate_in}
 use Rattle.gst_sheets.specs.Sheets.{tolerance_sheet, diagnostics_sheet}
 use Rattle.parameters.specs.Parameters.{config_of, good_config, has_entry, place_of, places_of, repeated, parameter_verdict, parameters_verdict, request_verdict}
 use Rattle.descent.specs.Fit.{put, usable, distance, objective_of, evaluate, displacement, derivative, gradient, norm, step_length, trial, search_to, step, after as after_steps, closed, fit_of}
-use Rattle.descent.specs.declared.GstTermination.TheVariants.{GradientTolerance}
 use Rattle.fit_sheets.specs.Sheets.{fit_words, request_sheet, fit_sheet}
 use Rattle.tomography.specs.Sheet.{model_sheet, kind_sheet, sheet_of}
 use Rattle.refusal.specs.declared.Refusal.TheVariants.{InvalidNormalization, Operator, SingularGaugeTransform, EigensolverDidNotConverge}
@@ -93,7 +92,7 @@ rows =
     -- kind 7, counts 1 and 1 at the probabilities 2^-1074 and 1: the deviance is infinite
     ∷ record { words = 0x7001020000010000 ∷ 0x3eb0000000000000 ∷ 0x3ff0000000000000 ∷ 1 ∷ 0x3ff0000000000000 ∷ 0 ∷ 0 ∷ 0 ∷ 0 ∷ 0 ∷ 1 ∷ 1 ∷ []; outcome = record { answer = Ok Diagnostics; words = 0xc0874385446d71c3 ∷ 0x7ff0000000000000 ∷ [] } }
     -- kind 5, state 1, effects 0.5 and 0.5, no gates, counts 1 and 1, default controls: effect 0 is moved, and both its probes fail
-    ∷ record { words = 0x5001020000010100 ∷ 200 ∷ 0x3fb999999999999a ∷ 0x3ee4f8b588e368f1 ∷ 0x3e45798ee2308c3a ∷ 0x3d719799812dea11 ∷ 0x3e112e0be826d695 ∷ 24 ∷ 0 ∷ 0x3ff0000000000000 ∷ 0x3fe0000000000000 ∷ 0x3fe0000000000000 ∷ 0 ∷ 0 ∷ 0 ∷ 0 ∷ 0 ∷ 1 ∷ 1 ∷ 0x2000000000000000 ∷ []; outcome = record { answer = Ok (Fit GradientTolerance 0 5 3); words = 0xbff62e42fefa39ef ∷ 0 ∷ 0xbff62e42fefa39ef ∷ 0 ∷ 0x3ff62e42fefa39ef ∷ 0 ∷ 0x3ff0000000000000 ∷ 0x3fe0000000000000 ∷ 0x3fe0000000000000 ∷ [] } }
+    ∷ record { words = 0x5001020000010100 ∷ 200 ∷ 0x3fb999999999999a ∷ 0x3ee4f8b588e368f1 ∷ 0x3e45798ee2308c3a ∷ 0x3d719799812dea11 ∷ 0x3e112e0be826d695 ∷ 24 ∷ 0 ∷ 0x3ff0000000000000 ∷ 0x3fe0000000000000 ∷ 0x3fe0000000000000 ∷ 0 ∷ 0 ∷ 0 ∷ 0 ∷ 0 ∷ 1 ∷ 1 ∷ 0x2000000000000000 ∷ []; outcome = record { answer = Ok (Fit 1 0 5 true 3); words = 0xbff62e42fefa39ef ∷ 0 ∷ 0xbff62e42fefa39ef ∷ 0 ∷ 0x3ff62e42fefa39ef ∷ 0 ∷ 0x3ff0000000000000 ∷ 0x3fe0000000000000 ∷ 0x3fe0000000000000 ∷ [] } }
     ∷ []
 
 pub rows_right : Right rows
