@@ -87,13 +87,18 @@ module _ {F : Type 0} {g : Once F Lent (Answered × Lent)} {f : F} where
       }
     where
       go : (b : Bool) → leb 5 (length answer₀) ≡ b → (h : Header) → read_of card ≡ Ok h → h.kind ≡ 5 → distinct (places_of card h) ≡ true
-          → (R S E : ℕ) (v : Bool) (M : ℕ) → (exported_of (sheet_of card) result₀ work₀ answer₀).answer ≡ Ok (Fit R S E v M) → Buyer card h R S E v result₁
+          → (R S E : ℕ) (v : Bool) (M : ℕ)
+          → (exported_of (sheet_of card) result₀ work₀ answer₀).answer ≡ Ok (Fit R S E v M)
+          → Buyer card h R S E v result₁
       go true b k c d q R S E v M e =
           let h = leb-true 5 (length answer₀) b in
           let m = t.made h in
           let s : Sheet card result₀ result₁ work₀ work₁ m.0 =
           rw (← m.1.shows.0, ← m.1.shows.1, ← m.1.shows.2, ← m.1.shows.3) (calls m.1.lent m.1.left m.1.work_lent m.1.work_left m.0 m.1.met) in
-          s.fit k c d q R S E v M (s.call.gives.answer ∙ ap (λ (x : Outcome). x.answer) (with-room (sheet_of card) result₀ result₁ work₀ work₁ answer₀ answer₁ h) ∙ e)
+          s.fit k c d q R S E v M
+          (s.call.gives.answer
+          ∙ ap (λ (x : Outcome). x.answer)
+          (with-room (sheet_of card) result₀ result₁ work₀ work₁ answer₀ answer₁ h) ∙ e)
       go false b k c d q R S E v M e =
           let none : ◌≡◌ {A = Answered} (Err ShortBuffer) (Ok (Fit R S E v M)) =
           ap (λ (x : Outcome). x.answer) (no_room (sheet_of card) result₀ result₁ work₀ work₁ answer₀ answer₁ (leb-false 5 (length answer₀) b)) ∙ e in

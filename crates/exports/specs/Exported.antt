@@ -52,7 +52,9 @@ pub record Exported (o : Outcome) (result₀ result₁ : List ℕ) (work₀ work
 pub record SheetExported (card result₀ result₁ : List ℕ) (work₀ work₁ : List Float) (answer₀ answer₁ : List ℕ) (r : ℕ) : Type 0 where
   pub exported : Exported (sheet_of card) result₀ result₁ work₀ work₁ answer₀ answer₁ r
   pub fit : (h : Header) → read_of card ≡ Ok h → h.kind ≡ 5 → distinct (places_of card h) ≡ true
-      → (R S E : ℕ) (v : Bool) (M : ℕ) → (exported_of (sheet_of card) result₀ work₀ answer₀).answer ≡ Ok (answer.Fit R S E v M) → Buyer card h R S E v result₁
+      → (R S E : ℕ) (v : Bool) (M : ℕ)
+      → (exported_of (sheet_of card) result₀ work₀ answer₀).answer ≡ Ok (answer.Fit R S E v M)
+      → Buyer card h R S E v result₁
 
 -- the reading of a card
 pub record ReadExported (card answer₀ answer₁ : List ℕ) (r : ℕ) : Type 0 where

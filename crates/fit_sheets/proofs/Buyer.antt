@@ -100,8 +100,9 @@ module _ (s : List ℕ) (h : Header) (bytes : (i : ℕ) → get_or s i 0 < 256) 
           subst (λ (n : ℕ). f.evaluations ≤ 1 + 2 * n * (word_at s 1 + 1) + word_at s 1 * word_at s 7) (length-places s h)
           (subst (Counted (job_of s h)) e (evaluations-bound (job_of s h)))
 
-      borne : {R S E : ℕ} {v : Bool} {M : ℕ} {m : List ℕ} → ◌≡◌ {A = Answered} (Ok (Fit R S E v M)) (outcome_sheet s h (fitted f)).answer → m ≡ over (fit_words s h f) l
-          → Buyer s h R S E v m
+      borne : {R S E : ℕ} {v : Bool} {M : ℕ} {m : List ℕ}
+          → ◌≡◌ {A = Answered} (Ok (Fit R S E v M)) (outcome_sheet s h (fitted f)).answer
+          → m ≡ over (fit_words s h f) l → Buyer s h R S E v m
       borne {R} {S} {E} {v} {M} {m} a w =
           let c = subst (Claimed (job_of s h)) e (claimed (job_of s h) sound) in
           subst (Buyer s h R S E v) (sym w)
@@ -122,26 +123,35 @@ module _ (s : List ℕ) (h : Header) (bytes : (i : ℕ) → get_or s i 0 < 256) 
 -- ---- the sheet
 
 -- a refusal is no fit
-never-fit : {A : Type 0} {R S E : ℕ} {v : Bool} {M : ℕ} {r : Refusal} → ◌≡◌ {A = Answered} (Ok (Fit R S E v M)) (Err r) → A
+never-fit : {A : Type 0} {R S E : ℕ} {v : Bool} {M : ℕ} {r : Refusal}
+    → ◌≡◌ {A = Answered} (Ok (Fit R S E v M)) (Err r) → A
 never-fit e = cc
 
-pub buyer : (s : List ℕ) (h : Header) → ((i : ℕ) → get_or s i 0 < 256) → distinct (places_of s h) ≡ true → {R S E : ℕ} {v : Bool} {M : ℕ} {l m : List ℕ} → Gives (fit_sheet s h) l m (Ok (Fit R S E v M))
-    → Buyer s h R S E v m
+pub buyer : (s : List ℕ) (h : Header) → ((i : ℕ) → get_or s i 0 < 256)
+    → distinct (places_of s h) ≡ true → {R S E : ℕ} {v : Bool} {M : ℕ} {l m : List ℕ}
+    → Gives (fit_sheet s h) l m (Ok (Fit R S E v M)) → Buyer s h R S E v m
 unfolding fit_sheet request_sheet
 buyer s h bytes different {R} {S} {E} {v} {M} {l} {m} g = checked (checked_of s h) refl g.answer g.written
   where
     sheet : descent.Outcome → Outcome
     sheet o = outcome_sheet s h o
 
-    ended : checked_of s h ≡ good → request_verdict s h ≡ good → (o : descent.Outcome) → fit_of (job_of s h) ≡ o → ◌≡◌ {A = Answered} (Ok (Fit R S E v M)) (sheet o).answer → m ≡ over (sheet o).words l → Buyer s h R S E v m
+    ended : checked_of s h ≡ good → request_verdict s h ≡ good
+        → (o : descent.Outcome) → fit_of (job_of s h) ≡ o
+        → ◌≡◌ {A = Answered} (Ok (Fit R S E v M)) (sheet o).answer
+        → m ≡ over (sheet o).words l → Buyer s h R S E v m
     ended c q (fitted f) e a w = borne s h bytes c q different f l e a w
     ended c q (unfitted r) e a w = never-fit a
 
-    requested : checked_of s h ≡ good → (x : Verdict) → request_verdict s h ≡ x → ◌≡◌ {A = Answered} (Ok (Fit R S E v M)) (after x refused (sheet (fit_of (job_of s h)))).answer
-        → m ≡ over (after x refused (sheet (fit_of (job_of s h)))).words l → Buyer s h R S E v m
+    requested : checked_of s h ≡ good → (x : Verdict) → request_verdict s h ≡ x
+        → ◌≡◌ {A = Answered} (Ok (Fit R S E v M)) (after x refused (sheet (fit_of (job_of s h)))).answer
+        → m ≡ over (after x refused (sheet (fit_of (job_of s h)))).words l
+        → Buyer s h R S E v m
     requested c (Ok _) q a w = ended c q (fit_of (job_of s h)) refl a w
     requested c (Err r) q a w = never-fit a
 
-    checked : (x : Verdict) → checked_of s h ≡ x → ◌≡◌ {A = Answered} (Ok (Fit R S E v M)) (after x refused (request_sheet s h)).answer → m ≡ over (after x refused (request_sheet s h)).words l → Buyer s h R S E v m
+    checked : (x : Verdict) → checked_of s h ≡ x
+        → ◌≡◌ {A = Answered} (Ok (Fit R S E v M)) (after x refused (request_sheet s h)).answer
+        → m ≡ over (after x refused (request_sheet s h)).words l → Buyer s h R S E v m
     checked (Ok _) c a w = requested c (request_verdict s h) refl a w
     checked (Err r) c a w = never-fit a

@@ -32,7 +32,11 @@ unfoldable pub fit_words : List ℕ → Header → Fitted → List ℕ
 fit_words s h f = words_of 6 (fit_numbers f.initial f.final f.objective f.norm) ++ model_words_of s h f.model
 
 abbrev pub outcome_sheet : List ℕ → Header → descent.Outcome → Outcome
-outcome_sheet s h (fitted f) = record { answer = Ok (Fit (stop_number f.stop) f.steps f.evaluations (converged f.stop) (model_words h)); words = fit_words s h f }
+outcome_sheet s h (fitted f) =
+    record {
+      answer = Ok (Fit (stop_number f.stop) f.steps f.evaluations (converged f.stop) (model_words h));
+      words = fit_words s h f;
+    }
 outcome_sheet s h (unfitted r) = refused r
 
 -- the model is checked before the controls, the records and the coordinates

@@ -141,7 +141,8 @@ fn print_fit<W: Write>(
     res: &[u64],
 ) -> usize
     ensures lines { result ≡ fit_lines words (length res.now) }
-    ensures text { Writes W.contents out.old out.new (lines_text (fit_line stop steps evaluations converged ∷ fit_shown words res.now)) }
+    ensures text { Writes W.contents out.old out.new
+        (lines_text (fit_line stop steps evaluations converged ∷ fit_shown words res.now)) }
 {
     let converged = u64::from(converged);
     writeln!(out, "fit {stop} {steps} {evaluations} {converged}");
